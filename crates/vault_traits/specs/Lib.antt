@@ -1,0 +1,6 @@
+pub mod Counts
+pub mod Crash
+pub mod Told
+pub mod Shelf
+pub mod Files
+pub mod Codes

@@ -2,6 +2,7 @@
 #![tactic(auto)]
 
 ghost use Rattle.std.specs.Prelude.{◌≡◌, ◌<◌, ◌+◌, ◌++◌, List, ℕ, [], map, length};
+ghost use Rattle.vault_types.specs.declared.Fault.TheVariants as fault;
 ghost use Rattle.vault_types.specs.Cuts.{cuts};
 ghost use Rattle.vault_types.specs.Names.{NoClash};
 ghost use Rattle.vault_types.specs.Tables.{id_of};
@@ -15,6 +16,7 @@ pub mod text;
 
 use crate::list::ListOf;
 use crate::text::Text;
+use std::alloc::{AllocError, AllocFailed};
 
 /// The number of a container.
 pub type Id = u64;
@@ -28,6 +30,22 @@ pub type Set = u8;
 /// There is no memory.
 #[derive(Clone, Copy, Debug, PartialEq, Eq)]
 pub struct Memory;
+
+impl From<AllocError> for Memory {
+    ghost from_gives = { λ _ e. Unit {0} };
+
+    fn from(_: AllocError) -> Self {
+        Memory
+    }
+}
+
+impl<T: Drop> From<AllocFailed<T>> for Memory {
+    ghost from_gives = { λ _ e. Unit {0} };
+
+    fn from(_: AllocFailed<T>) -> Self {
+        Memory
+    }
+}
 
 /// A fingerprint: a SHA-1.
 #[derive(Clone, Copy, Debug, PartialEq, Eq, PartialOrd, Ord, Hash)]
@@ -203,6 +221,30 @@ pub enum Fault {
         latest: Version,
         next: Id,
     },
+}
+
+impl From<Memory> for Fault {
+    ghost from_gives = { λ _ e. e ≡ fault.Memory };
+
+    fn from(_: Memory) -> Self {
+        Fault::Memory
+    }
+}
+
+impl From<AllocError> for Fault {
+    ghost from_gives = { λ _ e. e ≡ fault.Memory };
+
+    fn from(_: AllocError) -> Self {
+        Fault::Memory
+    }
+}
+
+impl<T: Drop> From<AllocFailed<T>> for Fault {
+    ghost from_gives = { λ _ e. e ≡ fault.Memory };
+
+    fn from(_: AllocFailed<T>) -> Self {
+        Fault::Memory
+    }
 }
 
 /// The answer to a line or a command.

@@ -4,11 +4,11 @@ ghost use Rattle.vault_traits.specs.declared.names.Refused.TheVariants as refuse
 
 use std::alloc::{AllocError, AllocFailed};
 
-/// The device failed.
+/// The device failed. Its count of faults has risen.
 #[derive(Clone, Copy, Debug, PartialEq, Eq)]
 pub struct Failed;
 
-/// The device failed, or there was no memory.
+/// The device failed, and its count of faults has risen; or there was no memory.
 #[derive(Clone, Copy, Debug, PartialEq, Eq)]
 pub enum Refused {
     Failed,

@@ -7,6 +7,8 @@ ghost use Rattle.vault_traits.specs.Files.{ChangesOnly, AreKept, IsReaderOf, IsN
 use crate::{Refused, Sink, Source};
 use std::alloc::Global;
 
+/// Sources and sinks by their names. What it tells is the bytes under each name. The readers and writers of places that
+/// tell this tell their own content.
 pub trait Places {
     type Reader: Source + Send;
 
@@ -15,7 +17,7 @@ pub trait Places {
     /// The bytes under each name, where the places tell them, and how often openings, readers and writers failed.
     ghost told: { Self → PlacesTold };
 
-    /// A reader of what is under the name. A name that is not there is a failed opening.
+    /// A reader with all bytes of the name left, that has not failed. A name that is not there is a failed opening.
     fn open_source(&mut self, alloc: Global, name: &str) -> Result<Self::Reader, Refused>
         ensures reader { IfOk result (λ r. IsReaderOf (told self.old).files name.now (Self.Reader.told r)) }
         ensures files { AreKept (told self.old).files (told self.new).files }
@@ -23,14 +25,15 @@ pub trait Places {
         ensures write_faults { (told self.new).write_faults ≡ (told self.old).write_faults }
         ensures cause { HasCause (told self.old).faults (told self.new).faults result };
 
-    /// Gives a reader back.
+    /// Gives a reader back; its faults are counted as `read_faults`. It takes no memory.
     fn close_source(&mut self, reader: Self::Reader)
         ensures files { AreKept (told self.old).files (told self.new).files }
         ensures faults { (told self.new).faults ≡ (told self.old).faults }
         ensures read_faults { (told self.new).read_faults ≡ added (told self.old).read_faults (Self.Reader.told reader).faults }
         ensures write_faults { (told self.new).write_faults ≡ (told self.old).write_faults };
 
-    /// Empties the name, and gives a writer for it. After an `Err` the name has its bytes or none.
+    /// Makes the name empty, and gives a writer for it that has taken nothing and not failed. After an `Err` the name has
+    /// its bytes, or is empty.
     fn open_sink(&mut self, alloc: Global, name: &str) -> Result<Self::Writer, Refused>
         ensures writer { IfOk result (λ w. IsNewWriter (told self.old).files (Self.Writer.told w)) }
         ensures ok { OnOk result (ChangesOnly (told self.old).files (told self.new).files name.now IsEmptied) }
@@ -39,7 +42,7 @@ pub trait Places {
         ensures write_faults { (told self.new).write_faults ≡ (told self.old).write_faults }
         ensures cause { HasCause (told self.old).faults (told self.new).faults result };
 
-    /// Gives the name what the writer took.
+    /// Gives the name what the writer took; its faults are counted as `write_faults`. It takes no memory.
     fn close_sink(&mut self, name: &str, writer: Self::Writer)
         requires { IsThere (told self.old).files name.now }
         ensures files { ChangesOnly (told self.old).files (told self.new).files name.now (IsWhatWasTaken (Self.Writer.told writer).taken) }

@@ -5,11 +5,13 @@ ghost use Rattle.vault_traits.specs.Told.{SourceTold, SinkTold, Gives, Takes};
 
 use crate::Failed;
 
+/// A stream of bytes that is read from its front to its end. What it tells is what is left.
 pub trait Source {
     /// What is left, where the source tells that, and how often it has failed.
     ghost told: { Self → SourceTold };
 
-    /// Reads the next bytes to the front of the buffer. No bytes are the end. After an `Err` what is left is as before.
+    /// Reads the next bytes to the front of the buffer, and says how many. No bytes are the end, and come only where
+    /// nothing is left. After an `Err` what is left is as before. It takes no memory.
     fn read(&mut self, buf: &mut [u8]) -> Result<usize, Failed>
         requires { 0 < length buf.old }
         ensures fits { IfOk result (λ n. n ≤ length buf.old) }
@@ -23,11 +25,13 @@ pub trait Source {
         ensures { result ≡ (told self.now).faults };
 }
 
+/// A stream of bytes that is written at its end. What it tells is what it has taken.
 pub trait Sink {
     /// What the sink has taken, where it tells that, and how often it has failed.
     ghost told: { Self → SinkTold };
 
-    /// Takes some bytes from the front of the piece, and says how many. After an `Err` nothing of it was taken.
+    /// Takes some bytes from the front of the piece, at least one, and says how many: a device that takes nothing has
+    /// failed. After an `Err` nothing of the piece was taken. It takes no memory.
     fn write(&mut self, piece: &[u8]) -> Result<usize, Failed>
         requires { 0 < length piece.now }
         ensures some { IfOk result (λ n. (0 < n) × (n ≤ length piece.now)) }

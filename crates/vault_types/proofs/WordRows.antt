@@ -12,7 +12,7 @@ use Rattle.vault_types.specs.declared.Line.TheVariants as line
 use Rattle.vault_types.specs.declared.Answer.TheVariants.{Stored, Removed}
 use Rattle.vault_types.specs.State.{State, empty_state, recipe_of, version_of}
 use Rattle.vault_types.specs.Backup.{backup}
-use Rattle.vault_types.specs.Words.{command_of, script_of}
+use Rattle.vault_types.specs.Words.{command_of, script_of, replica_of}
 use Rattle.vault_types.specs.Texts.{answer_text, recipe_text}
 use Rattle.vault_types.specs.Generator.{bytes_from}
 
@@ -52,6 +52,39 @@ no_word = refl
 low_max : command_of (codes "backup" ∷ codes "--max" ∷ codes "4096" ∷ []) ≡ None
 unfolding digits
 low_max = refl
+
+scrub_row : command_of (codes "scrub" ∷ []) ≡ Some (command.Scrub 2)
+unfolding digits
+scrub_row = refl
+
+area_row : command_of (codes "restore" ∷ codes "--version=1" ∷ codes "--area=65536" ∷ []) ≡ Some (command.Restore 0 1 16 (Some 65536))
+unfolding digits
+area_row = refl
+
+low_area : command_of (codes "restore" ∷ codes "--version=1" ∷ codes "--area=65535" ∷ []) ≡ None
+unfolding digits
+low_area = refl
+
+area_with_cache : command_of (codes "restore" ∷ codes "--version=1" ∷ codes "--area=65536" ∷ codes "--cache=2" ∷ []) ≡ None
+unfolding digits
+area_with_cache = refl
+
+sample_alone : command_of (codes "backup" ∷ codes "--sample=1" ∷ []) ≡ None
+unfolding digits
+sample_alone = refl
+
+sample_row : command_of (codes "backup" ∷ codes "--chunk=fixed" ∷ codes "--size=4" ∷ codes "--sample=1" ∷ codes "--prefetch=2" ∷ [])
+    ≡ Some (command.Backup 0 (record { cutting = Fixed 4; rewrite = Har; segment = 4194304; cap = 16; threshold = 50; limit = 5; container = 4194304 }) 64 1 (Some (1, 2)))
+unfolding digits
+sample_row = refl
+
+replica_row : replica_of (codes "--version" ∷ codes "2" ∷ codes "--set=3" ∷ []) ≡ Some (3, 2)
+unfolding digits
+replica_row = refl
+
+area_in_script : script_of (codes "restore 1 x area=65536") ≡ Err 1
+unfolding digits
+area_in_script = refl
 
 bad_line : script_of (codes "delete 1" ++ 10 ∷ codes "delete 01") ≡ Err 2
 unfolding digits

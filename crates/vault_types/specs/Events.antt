@@ -4,13 +4,14 @@ use Rattle.std.specs.Option.{option_map_or}
 use Rattle.std.specs.FinMap as fin
 use Rattle.std.specs.List.{range_with_len, IsDistinct, AllByRecursion}
 use Rattle.vault_types.specs.declared.Name.{Name}
-use Rattle.vault_types.specs.declared.Fp.{Fp}
 use Rattle.vault_types.specs.declared.Recipe.{Recipe}
 use Rattle.vault_types.specs.declared.Pending.{Pending}
 use Rattle.vault_types.specs.declared.Pending.TheVariants as pending
 use Rattle.vault_types.specs.Lists.{has}
 use Rattle.vault_types.specs.Tables.{Container, id_of, IsTable}
 use Rattle.vault_types.specs.State.{State, KeptVersion, floor_of, latest_of, next_of, version_of, container_in, HasFp, IsValid}
+use Rattle.vault_types.specs.Names.{fp}
+use Rattle.vault_types.specs.Bytes.{row_bytes, HasPayload}
 use Rattle.vault_types.specs.Backup.{with_new_version}
 use Rattle.vault_types.specs.Delete.{delete}
 use Rattle.vault_types.specs.Blobs.{floor_bytes, recipe_bytes, IsRecipe}
@@ -97,9 +98,9 @@ put_in c job = record { set = job.set; containers = job.containers ++ c ∷ [] }
 abbrev pub after_put : Container → List Name → Core → Core
 after_put c strays K = record { state = K.state; other = K.other; pins = K.pins; strays = strays; job = option_map (put_in c) K.job; pending = K.pending }
 
--- what a recipe says of its version, where sum stands for a whole that it lacks
-abbrev pub version_in_recipe : Fp → Recipe → KeptVersion
-version_in_recipe sum r = record { next = r.next; rows = r.rows; sparse = r.sparse; sum = unwrap_or r.whole sum }
+-- what a recipe says of its version. A recipe without a whole has the sum of the bytes that its rows have in these containers
+abbrev pub version_in_recipe : List Container → Recipe → KeptVersion
+version_in_recipe containers r = record { next = r.next; rows = r.rows; sparse = r.sparse; sum = unwrap_or r.whole (fp (row_bytes containers r.rows)) }
 
 -- a recipe may be committed by the open job: it is the next of its set, its rows are in named containers or in those of
 -- the job, and it names each of the job's
@@ -112,7 +113,6 @@ pub record CanCommit (K : Core) (job : Job) (r : Recipe) : Type 0 where
   pub rows : AllByRecursion (HasFp (K.state.containers ++ job.containers)) r.rows
   pub uses : AllByRecursion (λ c. Contains (map (λ q. q.id) r.rows) c.table.id) job.containers
   pub next : r.next ≡ next_of K.state + length job.containers
-  pub whole : IsSome r.whole
 
 -- the state with the version and the job's containers
 abbrev pub committed : KeptVersion → Job → State → State
@@ -188,6 +188,7 @@ pub record IsCore (K : Core) : Type 0 where
   pub state : IsValid K.state
   pub job : map id_of (put_by K.job) ≡ range_with_len (next_of K.state) (length (put_by K.job))
   pub tables : AllByRecursion (λ c. IsTable c.table) (put_by K.job)
+  pub payloads : AllByRecursion HasPayload (put_by K.job)
   pub job_set : IfSome K.job (λ j. j.set < length K.state.datasets)
   pub pins : (c : Container) → Contains (pinned_containers K.pins) c → (c.table.id < next_of K.state) × IfSome (container_in K.state.containers c.table.id) (λ d. d ≡ c)
   pub numbers : IsDistinct nat_eq (map (λ p. p.number) K.pins)

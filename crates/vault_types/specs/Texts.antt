@@ -1,6 +1,7 @@
 -- The printed lines.
 use Rattle.std.specs.Prelude.{ℕ, List, [], ◌∷◌, ◌++◌, flat_map, length, codes, decimal, ◌==◌, if◌then◌else◌}
 use Rattle.hex.specs.Hex.{encode_lower}
+use Rattle.sha1.specs.Sha1.{sha1}
 use Rattle.vault_types.specs.declared.Row.{Row}
 use Rattle.vault_types.specs.declared.Recipe.{Recipe}
 use Rattle.vault_types.specs.declared.Kind.{Kind}
@@ -82,3 +83,11 @@ abbrev pub recipe_text : Recipe → List ℕ
 recipe_text r = text_line (codes "version " ++ version_text r.set r.version ++ codes " length " ++ decimal r.length ++ codes " next " ++ decimal r.next
     ++ codes " chunks " ++ decimal (length r.rows) ++ codes " sparse " ++ decimal (length r.sparse))
     ++ flat_map row_text r.rows ++ flat_map sparse_text r.sparse
+
+-- what `fill` prints of a version that it restored
+abbrev pub output_text : ℕ → List ℕ → List ℕ
+output_text v bytes = text_line (codes "output " ++ decimal v ++ codes " " ++ encode_lower (sha1 bytes))
+
+-- what `scrub` prints of a container that is not good
+abbrev pub damage_text : ℕ → List ℕ → List ℕ
+damage_text id word = text_line (codes "container " ++ decimal id ++ codes " " ++ word)

@@ -1,4 +1,11 @@
 //! The types that the crates of the store share, and the definitions that their contracts cite.
+//!
+//! The definitions stand in `specs/`, one subject a file: how a stream is cut (`Cuts`), how chunks are named (`Names`),
+//! stored (`Decide`, `Fill`, `Sparse`), spelled as blobs (`Blobs`, `Shelf`), kept (`State`, `Backup`, `Delete`,
+//! `Events`) and restored (`Bytes`, `Plans`); what a script means (`Script`, `Refusals`), and what is read and printed
+//! (`Words`, `Texts`). The rules are after Destor (Fu and others, FAST 2015), history-aware rewriting (Fu and others,
+//! USENIX ATC 2014), capping (Lillibridge and others, FAST 2013), asymmetric-extremum chunking (Zhang and others,
+//! INFOCOM 2015) and Belady's rule of eviction (1966).
 #![tactic(auto)]
 
 ghost use Rattle.std.specs.Prelude.{◌≡◌, ◌<◌, ◌+◌, ◌++◌, List, ℕ, [], map, length};
@@ -18,16 +25,16 @@ use crate::list::ListOf;
 use crate::text::Text;
 use std::alloc::{AllocError, AllocFailed};
 
-/// The number of a container.
+/// The number of a container, from 1 on. It is given once and never again.
 pub type Id = u64;
 
-/// The number of a version in its set.
+/// The number of a version in its set, 1 to 4,294,967,294.
 pub type Version = u32;
 
-/// The number of a dataset.
+/// The number of a dataset, 0 to 255. Each has versions of its own; all share their chunks.
 pub type Set = u8;
 
-/// There is no memory.
+/// There is no memory. What stands after this answer is said where it is given.
 #[derive(Clone, Copy, Debug, PartialEq, Eq)]
 pub struct Memory;
 
@@ -47,18 +54,18 @@ impl<T: Drop> From<AllocFailed<T>> for Memory {
     }
 }
 
-/// A fingerprint: a SHA-1.
+/// A fingerprint: the SHA-1 of some bytes (FIPS 180-4).
 #[derive(Clone, Copy, Debug, PartialEq, Eq, PartialOrd, Ord, Hash)]
 pub struct Fp(pub [u8; 20]);
 
-/// A chunk in a container.
+/// A chunk in a container: its fingerprint and its length in bytes, 1 to 65,536.
 #[derive(Clone, Copy, Debug, PartialEq, Eq)]
 pub struct TableRow {
     pub fp: Fp,
     pub len: u32,
 }
 
-/// What a container has, in the order of its payload.
+/// What a container has: its chunks in the order of its payload, and the SHA-1 of the payload.
 #[derive(Drop)]
 pub struct Table {
     pub id: Id,
@@ -66,7 +73,7 @@ pub struct Table {
     pub payload_sum: Fp,
 }
 
-/// A chunk of a version, and the container that has it.
+/// A chunk of a version: its fingerprint, the container that has it, and its length in bytes.
 #[derive(Clone, Copy, Debug, PartialEq, Eq)]
 pub struct Row {
     pub fp: Fp,
@@ -74,7 +81,9 @@ pub struct Row {
     pub len: u32,
 }
 
-/// A version as its chunks in order. `whole` is the SHA-1 of its bytes; the first format has none.
+/// A version as its chunks in order. `next` is the first container id that was free after it, `length` its bytes,
+/// `sparse` the containers of which it uses little, ascending, and `whole` the SHA-1 of its bytes, which the first
+/// format of recipes has not.
 #[derive(Drop)]
 pub struct Recipe {
     pub set: Set,
@@ -93,7 +102,7 @@ pub struct Whole {
     pub want: Fp,
 }
 
-/// Where a chunk of a version lies: in which container, and where in its payload.
+/// Where a chunk of a version lies: in which container, from which byte of its payload, and how many bytes.
 #[derive(Clone, Copy, Debug, PartialEq, Eq)]
 pub struct Spot {
     pub id: Id,
@@ -101,7 +110,8 @@ pub struct Spot {
     pub len: u32,
 }
 
-/// How a stream is cut into chunks.
+/// How a stream is cut into chunks: in pieces of a fixed size (1 to 65,536 bytes), or at asymmetric extrema with a
+/// window (1 to 65,535) and a greatest length (above the window, to 65,536).
 #[derive(Clone, Copy, Debug, PartialEq, Eq)]
 pub enum Cutting {
     Fixed { size: u32 },
@@ -118,7 +128,9 @@ pub enum Rewrite {
     Both,
 }
 
-/// The settings of a backup.
+/// The settings of a backup: `segment` is a segment's bytes, `cap` how many old containers a segment may refer to,
+/// `threshold` the hundredths of a container below whose use it is sparse, `limit` the hundredths of a version that
+/// sparse containers may hold, `container` a container's bytes.
 #[derive(Clone, Copy, Debug, PartialEq, Eq)]
 pub struct JobConfig {
     pub cutting: Cutting,
@@ -130,7 +142,7 @@ pub struct JobConfig {
     pub container: u32,
 }
 
-/// The limits of a run.
+/// The limits of a run: chunks of a version, versions of a set, and bytes of a script.
 #[derive(Clone, Copy, Debug, PartialEq, Eq)]
 pub struct Limits {
     pub chunks: u32,
@@ -155,7 +167,7 @@ pub enum Step {
     Serve,
 }
 
-/// A kind of blob.
+/// A kind of blob, in the order in which a shelf lists them.
 #[derive(Clone, Copy, Debug, PartialEq, Eq, PartialOrd, Ord)]
 pub enum Kind {
     Table,
@@ -164,14 +176,17 @@ pub enum Kind {
     Floor,
 }
 
-/// The name of a blob.
+/// The name of a blob. The number of a table or payload is its container's, that of a recipe 2^32 times its set plus
+/// its version, that of a floor its set.
 #[derive(Clone, Copy, Debug, PartialEq, Eq, PartialOrd, Ord)]
 pub struct Name {
     pub kind: Kind,
     pub number: u64,
 }
 
-/// What is wrong with a blob.
+/// What is wrong with a blob: it is not there; its bytes are not in the format; its `next` is below that of the version
+/// before; its row is in no table; it has another length, or another SHA-1; the version's bytes, or a chunk, have
+/// another SHA-1 than was noted.
 #[derive(Clone, Copy, Debug, PartialEq, Eq)]
 pub enum Why {
     Absent,
@@ -184,7 +199,8 @@ pub enum Why {
     Chunk { row: u32, want: Fp, found: Fp },
 }
 
-/// Why a call or a line was refused.
+/// Why a call or a line was refused. The number of a read, write, store or place fault is the device's count of faults
+/// right after the call that failed.
 #[derive(Clone, Copy, Debug, PartialEq, Eq)]
 pub enum Fault {
     Usage,
@@ -247,7 +263,7 @@ impl<T: Drop> From<AllocFailed<T>> for Fault {
     }
 }
 
-/// The answer to a line or a command.
+/// The answer to a line or a command. Lengths are in bytes.
 #[derive(Clone, Copy, Debug, PartialEq, Eq)]
 pub enum Answer {
     Stored {

@@ -237,6 +237,9 @@ pub enum Fault {
         latest: Version,
         next: Id,
     },
+
+    /// The shelf has blobs, which this program cannot open yet.
+    NotEmpty,
 }
 
 impl From<Memory> for Fault {
@@ -457,6 +460,7 @@ impl Fault {
             Fault::BadLine(_) => 12,
             Fault::ScriptTooLong { .. } => 12,
             Fault::Full { .. } => 14,
+            Fault::NotEmpty => 15,
         }
     }
 }

@@ -7,4 +7,4 @@ mod writing;
 
 pub use refusals::fault_of;
 pub use sums::{body_of, push_sum, sum_of};
-pub use writing::{push_u32, push_u64};
+pub use writing::{push_sparse, push_u32, push_u64};

@@ -1,10 +1,10 @@
 //! Containers on a shelf: a table says which chunks a container has, and a payload has their bytes.
 #![tactic(auto)]
 
-ghost use Rattle.std.specs.Prelude.{◌≡◌, ◌⊎◌, List, ℕ, Option, Some, None, IfOk, OnOk, Ok, IsErrOf};
+ghost use Rattle.std.specs.Prelude.{◌≡◌, ◌⊎◌, ◌++◌, flat_map, List, ℕ, Option, Some, None, IfOk, OnOk, Ok, IsErrOf};
 ghost use Rattle.vault_types.specs.declared.Fault.TheVariants as fault;
 ghost use Rattle.vault_types.specs.Tables.{IsTable};
-ghost use Rattle.vault_types.specs.Blobs.{table_bytes, SpellsTable};
+ghost use Rattle.vault_types.specs.Blobs.{table_bytes, table_row_bytes, SpellsTable};
 ghost use Rattle.vault_types.specs.Shelf.{table_name, payload_name};
 ghost use Rattle.vault_traits.specs.Counts.{HasFailed, counted};
 ghost use Rattle.vault_traits.specs.Shelf.{IsAsBefore, IsWritten};
@@ -15,18 +15,36 @@ ghost use Rattle.container_store.specs.Damages.{IsNoTable, IsTableDamage, IsPayl
 
 mod sealed;
 
-use blob_parts::fault_of;
+use blob_parts::{fault_of, push_sum, push_u32, push_u64};
 pub use sealed::Sealed;
-use std::alloc::Global;
+use std::alloc::{AllocError, Global};
 use vault_traits::{Failed, Shelf};
-use vault_types::{Fault, Id, Kind, Memory, Name, Table};
+use vault_types::{Fault, Id, Kind, Memory, Name, Table, TableRow};
 
 /// The blob of a table.
 pub fn encode_table(alloc: Global, table: &Table) -> Result<Vec<u8>, Memory>
     requires { IsTable table.now }
     ensures { IfOk result (λ bytes. bytes.items ≡ table_bytes table.now) }
 {
-    Err(Memory)
+    let rows = table.rows.as_slice();
+    let mut blob = Vec::with_capacity(alloc, 56 + 24 * rows.len())?;
+    blob.extend_from_slice(b"DTB1")?;
+    push_u64(&mut blob, table.id)?;
+    push_u32(&mut blob, rows.len() as u32)?;
+    push_rows(&mut blob, rows)?;
+    blob.extend_from_slice(&table.payload_sum.0)?;
+    push_sum(&mut blob, 0)?;
+    Ok(blob)
+}
+
+fn push_rows(blob: &mut Vec<u8>, rows: &[TableRow]) -> Result<(), AllocError>
+    ensures { OnOk result (blob.new.items ≡ blob.old.items ++ flat_map table_row_bytes rows.now) }
+{
+    for row in rows {
+        blob.extend_from_slice(&row.fp.0)?;
+        push_u32(blob, row.len)?;
+    }
+    Ok(())
 }
 
 /// The table of container `id` that the bytes spell, or none exactly where they spell none of this id.

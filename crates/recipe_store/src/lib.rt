@@ -2,26 +2,67 @@
 //! keeps its versions.
 #![tactic(auto)]
 
-ghost use Rattle.std.specs.Prelude.{◌≡◌, List, ℕ, Option, Some, None, IfOk, OnOk, IfSome, IfNone, Ok, IsErrOf};
+ghost use Rattle.std.specs.Prelude.{◌≡◌, ◌++◌, ◌<◌, ◌^◌, length, flat_map, List, ℕ, Option, Some, None, IfOk, OnOk, IfSome, IfNone, Ok, IsErrOf};
 ghost use Rattle.vault_types.specs.declared.Fault.TheVariants as fault;
-ghost use Rattle.vault_types.specs.Blobs.{recipe_bytes, floor_bytes, IsRecipe, IsVersion, SpellsRecipe, SpellsFloor};
+ghost use Rattle.vault_types.specs.Blobs.{recipe_bytes, recipe_bytes_1, row_bytes_1, floor_bytes, IsRecipe, IsVersion, SpellsRecipe, SpellsFloor};
 ghost use Rattle.vault_types.specs.Shelf.{recipe_name, floor_name};
 ghost use Rattle.vault_traits.specs.Counts.{HasFailed};
 ghost use Rattle.vault_traits.specs.Shelf.{IsAsBefore, IsWritten, MayBeWritten, IsListing};
 ghost use Rattle.blob_parts.specs.Causes.{Has, HasCauses, HasStoreFault, IsUndamaged};
 ghost use Rattle.recipe_store.specs.Damages.{IsNoRecipe, IsNoFloor, IsRecipeDamage, IsFloorDamage, IsFloorIn};
 
-use blob_parts::{fault_of, sum_of};
-use std::alloc::Global;
+use blob_parts::{fault_of, push_sparse, push_sum, push_u32, push_u64, sum_of};
+use recipe_form2::encode2;
+use std::alloc::{AllocError, Global};
 use vault_traits::{Failed, Refused, Shelf};
-use vault_types::{Fault, Kind, Memory, Name, Recipe, Set, Version};
+use vault_types::{Fault, Id, Kind, Memory, Name, Recipe, Row, Set, Version};
 
 /// The blob of a recipe: of format 2 where it has the sum of its version, and else of format 1.
 pub fn encode_recipe(alloc: Global, recipe: &Recipe) -> Result<Vec<u8>, Memory>
     requires { IsRecipe recipe.now }
     ensures { IfOk result (λ bytes. bytes.items ≡ recipe_bytes recipe.now) }
 {
-    Err(Memory)
+    match recipe.whole {
+        None => encode_plain(alloc, recipe),
+        Some(_) => encode2(alloc, recipe),
+    }
+}
+
+// The blob of a recipe in format 1.
+fn encode_plain(alloc: Global, recipe: &Recipe) -> Result<Vec<u8>, Memory>
+    requires { IsRecipe recipe.now }
+    ensures { IfOk result (λ bytes. bytes.items ≡ recipe_bytes_1 recipe.now) }
+{
+    let rows = recipe.rows.as_slice();
+    let sparse = recipe.sparse.as_slice();
+    let mut blob = Vec::with_capacity(alloc, blob_len(rows, sparse))?;
+    blob.extend_from_slice(b"DRC1")?;
+    push_u32(&mut blob, recipe.version)?;
+    push_u64(&mut blob, recipe.next)?;
+    push_u64(&mut blob, recipe.length)?;
+    push_u32(&mut blob, rows.len() as u32)?;
+    push_rows(&mut blob, rows)?;
+    push_sparse(&mut blob, sparse)?;
+    push_sum(&mut blob, recipe.set)?;
+    Ok(blob)
+}
+
+fn blob_len(rows: &[Row], sparse: &[Id]) -> usize
+    requires rows { length rows.now < 2 ^ 32 }
+    requires sparse { length sparse.now < 2 ^ 32 }
+{
+    52 + 32 * rows.len() + 8 * sparse.len()
+}
+
+fn push_rows(blob: &mut Vec<u8>, rows: &[Row]) -> Result<(), AllocError>
+    ensures { OnOk result (blob.new.items ≡ blob.old.items ++ flat_map row_bytes_1 rows.now) }
+{
+    for row in rows {
+        blob.extend_from_slice(&row.fp.0)?;
+        push_u64(blob, row.id)?;
+        push_u32(blob, row.len)?;
+    }
+    Ok(())
 }
 
 /// The recipe of a version of a set that the bytes spell, or none exactly where they spell none.

@@ -2,20 +2,15 @@
 //! version's bytes.
 #![tactic(auto)]
 
-ghost use Rattle.std.specs.Prelude.{◌≡◌, Some, None, IfOk, Ok};
-ghost use Rattle.vault_types.specs.Blobs.{recipe_bytes};
-ghost use Rattle.recipe_form2.specs.Spelling.{IsRecipe2, SpellsRecipe2, IsNoRecipe2};
+mod writing;
+
+pub use writing::encode2;
+
+ghost use Rattle.std.specs.Prelude.{◌≡◌, Some, None, Ok};
+ghost use Rattle.recipe_form2.specs.Spelling.{SpellsRecipe2, IsNoRecipe2};
 
 use std::alloc::Global;
 use vault_types::{Memory, Recipe, Set, Version};
-
-/// The blob of a recipe that has the sum of its version.
-pub fn encode2(alloc: Global, recipe: &Recipe) -> Result<Vec<u8>, Memory>
-    requires { IsRecipe2 recipe.now }
-    ensures { IfOk result (λ bytes. bytes.items ≡ recipe_bytes recipe.now) }
-{
-    Err(Memory)
-}
 
 /// The recipe of a version of a set that the bytes spell in format 2, or none exactly where they spell none.
 pub fn decode2(

@@ -1,2 +1,4 @@
 pub mod SumLemmas
 pub mod SparseLemmas
+pub mod Fields
+pub mod Loop

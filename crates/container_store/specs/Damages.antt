@@ -26,23 +26,28 @@ abbrev pub IsTableDamage : Option Blobs → ℕ → Kind → ℕ → Why → Typ
 IsTableDamage told id kind.Table number w = (number ≡ id) × IsTableWhy told id w
 IsTableDamage told id other number w = ⊥
 
--- the payload of this table is not there, or has another length, or another sum
+-- what is wrong with the bytes as a payload of this table: another length, or another sum
+abbrev pub IsWrongPayload : Table → List ℕ → Why → Type 0
+IsWrongPayload t bytes (why.Length want found) = (want ≡ payload_len t.rows) × (found ≡ length bytes) × (found ≢ want)
+IsWrongPayload t bytes (why.Sum want found) =
+    (length bytes ≡ payload_len t.rows) × (want ≡ t.payload_sum) × (found ≡ fp bytes) × (found ≢ want)
+IsWrongPayload t bytes other = ⊥
+
+-- the payload of this table is not there, or is wrong
 abbrev pub IsPayloadWhy : Option Blobs → Table → Why → Type 0
 IsPayloadWhy told t why.Absent = Has told (payload_name t.id) None
-IsPayloadWhy told t (why.Length want found) =
-    (bytes : List ℕ) × Has told (payload_name t.id) (Some bytes)
-    × (want ≡ payload_len t.rows) × (found ≡ length bytes) × (found ≢ want)
-IsPayloadWhy told t (why.Sum want found) =
-    (bytes : List ℕ) × Has told (payload_name t.id) (Some bytes) × (length bytes ≡ payload_len t.rows)
-    × (want ≡ t.payload_sum) × (found ≡ fp bytes) × (found ≢ want)
-IsPayloadWhy told t other = ⊥
+IsPayloadWhy told t other = (bytes : List ℕ) × Has told (payload_name t.id) (Some bytes) × IsWrongPayload t bytes other
 
 abbrev pub IsPayloadDamage : Option Blobs → Table → Kind → ℕ → Why → Type 0
 IsPayloadDamage told t kind.Payload number w = (number ≡ t.id) × IsPayloadWhy told t w
 IsPayloadDamage told t other number w = ⊥
 
--- the bytes that the shelf has as this payload, with its length and its sum
-pub record IsLoaded (told : Option Blobs) (t : Table) (bytes : List ℕ) : Type 0 where
-  pub there : Has told (payload_name t.id) (Some bytes)
+-- the bytes have the length and the sum of this table's payload
+pub record IsPayloadOf (t : Table) (bytes : List ℕ) : Type 0 where
   pub len : length bytes ≡ payload_len t.rows
   pub sum : sha1 bytes ≡ t.payload_sum.0
+
+-- the shelf has the bytes as this payload
+pub record IsLoaded (told : Option Blobs) (t : Table) (bytes : List ℕ) : Type 0 where
+  pub there : Has told (payload_name t.id) (Some bytes)
+  pub fits : IsPayloadOf t bytes

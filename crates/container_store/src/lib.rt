@@ -1,9 +1,10 @@
 //! Containers on a shelf: a table says which chunks a container has, and a payload has their bytes.
 #![tactic(auto)]
 
-ghost use Rattle.std.specs.Prelude.{◌≡◌, ◌⊎◌, ◌++◌, flat_map, List, ℕ, Option, Some, None, IfOk, OnOk, Ok, IsErrOf};
+ghost use Rattle.std.specs.Prelude.{◌≡◌, ◌≤◌, IfSome, IfNone, ◌⊎◌, ◌++◌, flat_map, List, ℕ, Option, Some, None, IfOk, OnOk, Ok, IsErrOf};
 ghost use Rattle.vault_types.specs.declared.Fault.TheVariants as fault;
-ghost use Rattle.vault_types.specs.Tables.{IsTable};
+ghost use Rattle.vault_types.specs.declared.Kind.TheVariants as kind;
+ghost use Rattle.vault_types.specs.Tables.{IsTable, payload_len};
 ghost use Rattle.vault_types.specs.Blobs.{table_bytes, table_row_bytes, SpellsTable};
 ghost use Rattle.vault_types.specs.Shelf.{table_name, payload_name};
 ghost use Rattle.vault_traits.specs.Counts.{HasFailed, counted};
@@ -11,15 +12,16 @@ ghost use Rattle.vault_traits.specs.Shelf.{IsAsBefore, IsWritten};
 ghost use Rattle.blob_parts.specs.Causes.{Has, HasCauses, IsUndamaged};
 ghost use Rattle.blob_parts.specs.Writes.{AreWritten, MayBeWrittenInTurn};
 ghost use Rattle.container_store.specs.Sealing.{payload_of};
-ghost use Rattle.container_store.specs.Damages.{IsNoTable, IsTableDamage, IsPayloadDamage, IsLoaded};
+ghost use Rattle.container_store.specs.Damages.{IsNoTable, IsTableDamage, IsWrongPayload, IsPayloadDamage, IsPayloadOf, IsLoaded};
 
 mod sealed;
 
 use blob_parts::{fault_of, push_sum, push_u32, push_u64};
 pub use sealed::Sealed;
+use sha1::Sha1;
 use std::alloc::{AllocError, Global};
 use vault_traits::{Failed, Shelf};
-use vault_types::{Fault, Id, Kind, Memory, Name, Table, TableRow};
+use vault_types::{Fault, Fp, Id, Kind, Memory, Name, Table, TableRow, Why};
 
 /// The blob of a table.
 pub fn encode_table(alloc: Global, table: &Table) -> Result<Vec<u8>, Memory>
@@ -123,10 +125,53 @@ pub fn load<S: Shelf>(alloc: Global, shelf: &mut S, table: &Table) -> Result<Vec
     ensures gets { (S.told shelf.new).gets ≡ counted (S.told shelf.old).gets }
     ensures causes { HasCauses (S.told shelf.old).faults (S.told shelf.new).faults (IsPayloadDamage (S.told shelf.old).blobs table.now) result }
 {
-    match shelf.get(alloc, name_of(Kind::Payload, table.id)) {
-        Ok(_) => Err(Fault::Memory),
-        Err(refused) => Err(fault_of(shelf, refused)),
+    let bytes = match shelf.get(alloc, name_of(Kind::Payload, table.id)) {
+        Ok(Some(bytes)) => bytes,
+        Ok(None) => return Err(damaged_payload(table.id, Why::Absent)),
+        Err(refused) => return Err(fault_of(shelf, refused)),
+    };
+    match payload_fault(table, bytes.as_slice()) {
+        None => Ok(bytes),
+        Some(why) => Err(damaged_payload(table.id, why)),
     }
+}
+
+fn damaged_payload(number: Id, why: Why) -> Fault
+    ensures { result ≡ fault.Damaged kind.Payload number why }
+{
+    Fault::Damaged {
+        kind: Kind::Payload,
+        number,
+        why,
+    }
+}
+
+// What is wrong with the bytes as a payload of this table.
+fn payload_fault(table: &Table, bytes: &[u8]) -> Option<Why>
+    requires { IsTable table.now }
+    ensures wrong { IfSome result (IsWrongPayload table.now bytes.now) }
+    ensures right { IfNone result (IsPayloadOf table.now bytes.now) }
+{
+    let want = payload_len(table.rows.as_slice());
+    let found = bytes.len() as u64;
+    if found != want {
+        return Some(Why::Length { want, found });
+    }
+    let sum = Fp(Sha1::digest(bytes));
+    if sum != table.payload_sum {
+        return Some(Why::Sum {
+            want: table.payload_sum,
+            found: sum,
+        });
+    }
+    None
+}
+
+fn payload_len(rows: &[TableRow]) -> u64
+    requires { payload_len rows.now ≤ 4194304 }
+    ensures { result ≡ payload_len rows.now }
+{
+    rows.iter().map(|row| u64::from(row.len)).sum()
 }
 
 /// Takes the table out and then the payload. The payload's removal isn't tried where that of the table failed. Takes no

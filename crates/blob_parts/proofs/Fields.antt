@@ -1,5 +1,5 @@
 -- What a field takes is what spells its value, and what spells a value is read as it, whatever follows.
-use Rattle.std.proofs.Common.{◌≡◌, ℕ, zero, suc, ◌+◌, ◌*◌, ◌^◌, ◌<◌, ◌≤◌, Bool, true, false, cond, ltb, List, [], ◌∷◌, ◌++◌, length, get_or, take, drop, Option, Some, None, refl, sym, ap, subst, ◌∙◌, append_assoc, arith, inl, inr}
+use Rattle.std.proofs.Common.{◌≡◌, ℕ, zero, suc, ◌+◌, ◌-◌, ◌*◌, ◌^◌, ◌<◌, ◌≤◌, Bool, true, false, cond, eqb, ltb, List, [], ◌∷◌, ◌++◌, length, get_or, take, drop, Option, Some, None, Result, Err, refl, sym, ap, subst, ◌∙◌, append_assoc, arith, inl, inr}
 use Rattle.std.specs.List.{AllByRecursion, flat_map}
 use Rattle.std.specs.Int.{Width, w32, w64, byte_len, from_be_bytes, to_be_bytes}
 use Rattle.std.proofs.lemmas.Bool.{cases_lt, ltb-false, le-ltb}
@@ -8,7 +8,11 @@ use Rattle.std.proofs.lemmas.List.Concat.{flat_map-cons}
 use Rattle.std.proofs.lemmas.Nat.{be_bytes_4, be_bytes_8, from_be_bytes-to_be_bytes_4, from_be_bytes-to_be_bytes_8}
 use Rattle.vault_types.specs.declared.Fp.{Fp}
 use Rattle.vault_types.specs.Names.{IsFp}
-use Rattle.blob_parts.specs.Reading.{◌>>=◌, Field, number_at, fp_at, both_at, made_at, tested_at, many_at, wide_at, list_at}
+use Rattle.vault_types.specs.Blobs.{with_sum}
+use Rattle.blob_parts.specs.declared.unread.Unread.{Unread}
+use Rattle.blob_parts.specs.declared.unread.Unread.TheVariants as unread
+use Rattle.blob_parts.proofs.SumLemmas.{with_sum-parts}
+use Rattle.blob_parts.specs.Reading.{◌>>=◌, Field, Fails, number_at, tag_at, fp_at, both_at, made_at, tested_at, many_at, wide_at, list_at}
 
 abbrev pub IsBytes : List ℕ → Type 0
 IsBytes bytes = (i : ℕ) → get_or bytes i 0 < 256
@@ -251,3 +255,32 @@ module _ {X : Type 0} {field : Field X} {spell : X → List ℕ} {Fits : X → T
         ∙ ap (λ (r : Option (ℕ × List ℕ)). r >>= λ n. wide_at width field n.0 n.1) (u32_field.again (length xs) (flat_map spell xs ++ rest) fits.0)
         ∙ (wide_field is width wide (length xs)).again xs rest (refl, fits.1);
   }
+
+abbrev pub IsTag : ℕ → ℕ → Type 0
+IsTag tag n = (n < 2 ^ 32) × (eqb n tag ≡ true)
+
+pub tag_field : (tag : ℕ) → IsField (tag_at tag) (to_be_bytes w32) (IsTag tag)
+tag_field tag = tested_field u32_field (λ n. eqb n tag)
+
+-- ---- blobs
+
+pub IsBytes-body : (s : ℕ) (blob body : List ℕ) → blob ≡ with_sum s body → IsBytes blob → IsBytes body
+IsBytes-body s blob body e fits = let P : List ℕ → Type 0 = IsBytes in subst P (with_sum-parts s blob body e).0 (IsBytes-take (length blob - 20) blob fits)
+
+pub body_same : (s : ℕ) (blob body other : List ℕ) → blob ≡ with_sum s body → blob ≡ with_sum s other → body ≡ other
+body_same s blob body other e f = sym (with_sum-parts s blob body e).0 ∙ (with_sum-parts s blob other f).0
+
+-- what a call answered that read a field
+pub read_none : {Y : Type 0} (e : Unread) (read : Option Y) → Fails e read → e ≡ unread.Spelling → read ≡ None
+read_none unread.Memory read fails is = absurd cc
+read_none unread.Spelling read fails is = fails
+
+abbrev refused : {X : Type 0} → Unread → Result X Unread
+refused e = Err e
+
+refused_same : {X : Type 0} (a b : Unread) → refused {X = X} a ≡ refused b → a ≡ b
+refused_same a b e = cc
+
+-- the same behind a `?`, which passes the error on
+pub passed_none : {X Y : Type 0} (result : Result X Unread) (passed e : Unread) (read : Option Y) → result ≡ Err passed → passed ≡ e → result ≡ Err unread.Spelling → Fails e read → read ≡ None
+passed_none result passed e read was is spelling fails = read_none e read fails (sym is ∙ refused_same passed unread.Spelling (sym was ∙ spelling))

@@ -1,5 +1,5 @@
 -- Reading a blob from left to right: a field is a value and the bytes behind it.
-use Rattle.std.specs.Prelude.{◌≡◌, ℕ, zero, suc, ◌*◌, List, [], ◌∷◌, length, take, drop, Option, Some, None, Result, Ok, Err, Bool, nat_lt, if◌then◌else◌}
+use Rattle.std.specs.Prelude.{◌≡◌, ℕ, zero, suc, ◌*◌, List, [], ◌∷◌, length, take, drop, Option, Some, None, Result, Ok, Err, Bool, nat_lt, ◌==◌, if◌then◌else◌}
 use Rattle.std.specs.Int.{Width, w32, byte_len, from_be_bytes}
 use Rattle.vault_types.specs.declared.Fp.{Fp}
 use Rattle.blob_parts.specs.declared.unread.Unread.{Unread}
@@ -41,6 +41,10 @@ made_at make field bytes = field bytes >>= λ x. Some (make x.0, x.1)
 -- a field whose value passes the test
 abbrev pub tested_at : {X : Type 0} → (X → Bool) → Field X → Field X
 tested_at test field bytes = field bytes >>= λ x. if test x.0 then Some x else None
+
+-- the four bytes by which a blob of a kind begins, as a number
+abbrev pub tag_at : ℕ → Field ℕ
+tag_at tag = tested_at (λ n. n == tag) (number_at w32)
 
 -- n fields
 abbrev pub many_at : {X : Type 0} → Field X → ℕ → Field (List X)

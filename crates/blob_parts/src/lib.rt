@@ -7,7 +7,7 @@ mod sums;
 mod unread;
 mod writing;
 
-pub use reading::{fp_at, u32_at, u64_at};
+pub use reading::{fp_at, ids_at, tag_at, u32_at, u64_at};
 pub use refusals::fault_of;
 pub use sums::{body_of, push_sum, sum_of};
 pub use unread::Unread;

@@ -3,7 +3,6 @@
 
 ghost use Rattle.std.specs.Prelude.{◌≡◌, ◌≤◌, IfSome, IfNone, ◌⊎◌, ◌++◌, flat_map, List, ℕ, Option, Some, None, IfOk, OnOk, Ok, IsErrOf};
 ghost use Rattle.vault_types.specs.declared.Fault.TheVariants as fault;
-ghost use Rattle.vault_types.specs.declared.Kind.TheVariants as kind;
 ghost use Rattle.vault_types.specs.Tables.{IsTable, payload_len};
 ghost use Rattle.vault_types.specs.Blobs.{table_bytes, table_row_bytes, SpellsTable};
 ghost use Rattle.vault_types.specs.Shelf.{table_name, payload_name};
@@ -14,11 +13,13 @@ ghost use Rattle.blob_parts.specs.Writes.{AreWritten, MayBeWrittenInTurn};
 ghost use Rattle.container_store.specs.Sealing.{payload_of};
 ghost use Rattle.container_store.specs.Damages.{IsNoTable, IsTableDamage, IsWrongPayload, IsPayloadDamage, IsPayloadOf, IsLoaded};
 
+mod reading;
 mod sealed;
 
-use blob_parts::{fault_of, push_sum, push_u32, push_u64};
+use blob_parts::{Unread, fault_of, push_sum, push_u32, push_u64};
 pub use sealed::Sealed;
 use sha1::Sha1;
+use crate::reading::{payload_len, read_table};
 use std::alloc::{AllocError, Global};
 use vault_traits::{Failed, Shelf};
 use vault_types::{Fault, Fp, Id, Kind, Memory, Name, Table, TableRow, Why};
@@ -54,7 +55,11 @@ pub fn decode_table(alloc: Global, bytes: &[u8], id: Id) -> Result<Option<Table>
     ensures found { (t : _) → result ≡ Ok (Some t) → SpellsTable id bytes.now t }
     ensures none { result ≡ Ok None → IsNoTable id bytes.now }
 {
-    Err(Memory)
+    match read_table(alloc, bytes, id) {
+        Ok(table) => Ok(Some(table)),
+        Err(Unread::Spelling) => Ok(None),
+        Err(Unread::Memory) => Err(Memory),
+    }
 }
 
 /// Puts the payload and then the table. `StoreFault`, `Memory`.
@@ -113,7 +118,15 @@ pub fn get_table<S: Shelf>(alloc: Global, shelf: &mut S, id: Id) -> Result<Table
     ensures gets { (S.told shelf.new).gets ≡ (S.told shelf.old).gets }
     ensures causes { HasCauses (S.told shelf.old).faults (S.told shelf.new).faults (IsTableDamage (S.told shelf.old).blobs id) result }
 {
-    Err(Fault::Memory)
+    let bytes = match shelf.get(alloc, name_of(Kind::Table, id)) {
+        Ok(Some(bytes)) => bytes,
+        Ok(None) => return Err(damaged(Kind::Table, id, Why::Absent)),
+        Err(refused) => return Err(fault_of(shelf, refused)),
+    };
+    match decode_table(alloc, bytes.as_slice(), id)? {
+        Some(table) => Ok(table),
+        None => Err(damaged(Kind::Table, id, Why::Spelling)),
+    }
 }
 
 /// The payload of a container, by one get. Its length and its sum are those of the table. `StoreFault`, `Damaged`,
@@ -127,23 +140,19 @@ pub fn load<S: Shelf>(alloc: Global, shelf: &mut S, table: &Table) -> Result<Vec
 {
     let bytes = match shelf.get(alloc, name_of(Kind::Payload, table.id)) {
         Ok(Some(bytes)) => bytes,
-        Ok(None) => return Err(damaged_payload(table.id, Why::Absent)),
+        Ok(None) => return Err(damaged(Kind::Payload, table.id, Why::Absent)),
         Err(refused) => return Err(fault_of(shelf, refused)),
     };
     match payload_fault(table, bytes.as_slice()) {
         None => Ok(bytes),
-        Some(why) => Err(damaged_payload(table.id, why)),
+        Some(why) => Err(damaged(Kind::Payload, table.id, why)),
     }
 }
 
-fn damaged_payload(number: Id, why: Why) -> Fault
-    ensures { result ≡ fault.Damaged kind.Payload number why }
+fn damaged(kind: Kind, number: Id, why: Why) -> Fault
+    ensures { result ≡ fault.Damaged kind number why }
 {
-    Fault::Damaged {
-        kind: Kind::Payload,
-        number,
-        why,
-    }
+    Fault::Damaged { kind, number, why }
 }
 
 // What is wrong with the bytes as a payload of this table.
@@ -165,13 +174,6 @@ fn payload_fault(table: &Table, bytes: &[u8]) -> Option<Why>
         });
     }
     None
-}
-
-fn payload_len(rows: &[TableRow]) -> u64
-    requires { payload_len rows.now ≤ 4194304 }
-    ensures { result ≡ payload_len rows.now }
-{
-    rows.iter().map(|row| u64::from(row.len)).sum()
 }
 
 /// Takes the table out and then the payload. The payload's removal isn't tried where that of the table failed. Takes no

@@ -2,3 +2,4 @@ pub mod SumLemmas
 pub mod SparseLemmas
 pub mod Fields
 pub mod Loop
+pub mod RuleLemmas

@@ -3,15 +3,16 @@ use Rattle.std.proofs.Common.{◌≡◌, ℕ, zero, suc, ◌+◌, ◌-◌, ◌*�
 use Rattle.std.specs.List.{AllByRecursion, flat_map}
 use Rattle.std.specs.Int.{Width, w32, w64, byte_len, from_be_bytes, to_be_bytes}
 use Rattle.std.proofs.lemmas.Bool.{cases_lt, ltb-false, le-ltb}
-use Rattle.std.proofs.lemmas.List.{append-nil, take_at, drop_at, take-append-drop, length-append, length-take, get_or-drop, get_or-take, get_or_past}
+use Rattle.std.proofs.lemmas.List.{append-nil, nil_from_length, take_at, drop_at, take-append-drop, length-append, length-take, get_or-drop, get_or-take, get_or_past}
 use Rattle.std.proofs.lemmas.List.Concat.{flat_map-cons}
 use Rattle.std.proofs.lemmas.Nat.{be_bytes_4, be_bytes_8, from_be_bytes-to_be_bytes_4, from_be_bytes-to_be_bytes_8}
 use Rattle.vault_types.specs.declared.Fp.{Fp}
 use Rattle.vault_types.specs.Names.{IsFp}
-use Rattle.vault_types.specs.Blobs.{with_sum}
+use Rattle.vault_types.specs.Blobs.{with_sum, set_mark}
+use Rattle.sha1.specs.Sha1.{sha1}
 use Rattle.blob_parts.specs.declared.unread.Unread.{Unread}
 use Rattle.blob_parts.specs.declared.unread.Unread.TheVariants as unread
-use Rattle.blob_parts.proofs.SumLemmas.{with_sum-parts}
+use Rattle.blob_parts.proofs.SumLemmas.{with_sum-parts, length-sha1}
 use Rattle.blob_parts.specs.Reading.{◌>>=◌, Field, Fails, number_at, tag_at, fp_at, both_at, made_at, tested_at, many_at, wide_at, list_at}
 
 abbrev pub IsBytes : List ℕ → Type 0
@@ -284,3 +285,39 @@ refused_same a b e = cc
 -- the same behind a `?`, which passes the error on
 pub passed_none : {X Y : Type 0} (result : Result X Unread) (passed e : Unread) (read : Option Y) → result ≡ Err passed → passed ≡ e → result ≡ Err unread.Spelling → Fails e read → read ≡ None
 passed_none result passed e read was is spelling fails = read_none e read fails (sym is ∙ refused_same passed unread.Spelling (sym was ∙ spelling))
+
+-- ---- a blob whose body is one field
+
+module _ {X : Type 0} {field : Field X} {head : X → List ℕ} {Fits : X → Type 0} where
+  pub blob_again : IsField field head Fits → (s : ℕ) (bytes body : List ℕ) → bytes ≡ with_sum s body → (x : X) → Fits x → bytes ≡ with_sum s (head x) → field body ≡ Some (x, [])
+  blob_again is s bytes body e x fits spelled =
+      ap field (body_same s bytes body (head x) e spelled ∙ sym (append-nil (head x))) ∙ is.again x [] fits
+
+  pub blob_unread : IsField field head Fits → (s : ℕ) (bytes body : List ℕ) → bytes ≡ with_sum s body → field body ≡ None → (x : X) → Fits x → bytes ≡ with_sum s (head x) → ⊥
+  blob_unread is s bytes body e none x fits spelled = absurd (cc (blob_again is s bytes body e x fits spelled, none))
+
+  pub blob_other : IsField field head Fits → (s : ℕ) (bytes body : List ℕ) → bytes ≡ with_sum s body → (y : X) (rest : List ℕ) → field body ≡ Some (y, rest)
+      → (x : X) → Fits x → bytes ≡ with_sum s (head x) → (y ≡ x) × (rest ≡ [])
+  blob_other is s bytes body e y rest read x fits spelled =
+      let both : (y, rest) ≡ (x, []) = some_is (y, rest) (x, []) (sym read ∙ blob_again is s bytes body e x fits spelled) in
+      (ap (λ (z : X × List ℕ). z.0) both, ap (λ (z : X × List ℕ). z.1) both)
+
+  pub blob_fits : IsField field head Fits → (s : ℕ) (bytes body : List ℕ) → bytes ≡ with_sum s body → IsBytes bytes → (x : X) (rest : List ℕ) → field body ≡ Some (x, rest) → Fits x
+  blob_fits is s bytes body e fits x rest read = (is.takes body x rest (IsBytes-body s bytes body e fits) read).1
+
+  pub blob_spelled : IsField field head Fits → (s : ℕ) (bytes body : List ℕ) → bytes ≡ with_sum s body → IsBytes bytes → (x : X) (rest : List ℕ) → field body ≡ Some (x, rest) → length rest ≡ 0
+      → bytes ≡ with_sum s (head x)
+  blob_spelled is s bytes body e fits x rest read ended =
+      let taken = (is.takes body x rest (IsBytes-body s bytes body e fits) read).0.parts in
+      e ∙ ap (with_sum s) (taken ∙ ap (λ (r : List ℕ). head x ++ r) (nil_from_length rest ended) ∙ append-nil (head x))
+
+  -- each value has one blob, and no blob begins another
+  pub blob_same : IsField field head Fits → (s : ℕ) (x y : X) (rest : List ℕ) → Fits x → Fits y → with_sum s (head x) ++ rest ≡ with_sum s (head y) → (x ≡ y) × (rest ≡ [])
+  blob_same is s x y rest first second e =
+      let more = field_same is x y (sha1 (head x ++ set_mark s) ++ rest) (sha1 (head y ++ set_mark s)) first second (sym (append_assoc (head x) (sha1 (head x ++ set_mark s)) rest) ∙ e) in
+      (more.0, nil_from_length rest (omega (arith, ap length more.1, length-append (sha1 (head x ++ set_mark s)) rest, length-sha1 (head x ++ set_mark s), length-sha1 (head y ++ set_mark s))))
+
+-- what is empty where a test said it isn't
+pub not_empty : {X : Type 0} (rest : List X) → eqb (length rest) 0 ≡ false → rest ≡ [] → ⊥
+not_empty [] e is = absurd cc
+not_empty (b ∷ rest) e is = absurd cc

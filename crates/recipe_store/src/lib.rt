@@ -2,20 +2,23 @@
 //! keeps its versions.
 #![tactic(auto)]
 
-ghost use Rattle.std.specs.Prelude.{◌≡◌, ◌++◌, ◌<◌, ◌^◌, length, flat_map, List, ℕ, Option, Some, None, IfOk, OnOk, IfSome, IfNone, Ok, IsErrOf};
+mod plain;
+
+ghost use Rattle.std.specs.Prelude.{◌≡◌, ◌↔◌, IsTrue, slice_index, List, ℕ, Option, Some, None, IfOk, OnOk, IfSome, IfNone, Ok, IsErrOf};
 ghost use Rattle.vault_types.specs.declared.Fault.TheVariants as fault;
-ghost use Rattle.vault_types.specs.Blobs.{recipe_bytes, recipe_bytes_1, row_bytes_1, floor_bytes, IsRecipe, IsVersion, SpellsRecipe, SpellsFloor};
+ghost use Rattle.vault_types.specs.Blobs.{recipe_bytes, floor_bytes, IsRecipe, IsVersion, SpellsRecipe, SpellsFloor};
 ghost use Rattle.vault_types.specs.Shelf.{recipe_name, floor_name};
 ghost use Rattle.vault_traits.specs.Counts.{HasFailed};
 ghost use Rattle.vault_traits.specs.Shelf.{IsAsBefore, IsWritten, MayBeWritten, IsListing};
 ghost use Rattle.blob_parts.specs.Causes.{Has, HasCauses, HasStoreFault, IsUndamaged};
 ghost use Rattle.recipe_store.specs.Damages.{IsNoRecipe, IsNoFloor, IsRecipeDamage, IsFloorDamage, IsFloorIn};
 
-use blob_parts::{fault_of, push_sparse, push_sum, push_u32, push_u64, sum_of};
-use recipe_form2::encode2;
-use std::alloc::{AllocError, Global};
+use blob_parts::{Unread, fault_of, sum_of};
+use recipe_form2::{decode2, encode2};
+use crate::plain::{encode_plain, read_plain};
+use std::alloc::Global;
 use vault_traits::{Failed, Refused, Shelf};
-use vault_types::{Fault, Id, Kind, Memory, Name, Recipe, Row, Set, Version};
+use vault_types::{Fault, Kind, Memory, Name, Recipe, Set, Version, Why};
 
 /// The blob of a recipe: of format 2 where it has the sum of its version, and else of format 1.
 pub fn encode_recipe(alloc: Global, recipe: &Recipe) -> Result<Vec<u8>, Memory>
@@ -28,43 +31,6 @@ pub fn encode_recipe(alloc: Global, recipe: &Recipe) -> Result<Vec<u8>, Memory>
     }
 }
 
-// The blob of a recipe in format 1.
-fn encode_plain(alloc: Global, recipe: &Recipe) -> Result<Vec<u8>, Memory>
-    requires { IsRecipe recipe.now }
-    ensures { IfOk result (λ bytes. bytes.items ≡ recipe_bytes_1 recipe.now) }
-{
-    let rows = recipe.rows.as_slice();
-    let sparse = recipe.sparse.as_slice();
-    let mut blob = Vec::with_capacity(alloc, blob_len(rows, sparse))?;
-    blob.extend_from_slice(b"DRC1")?;
-    push_u32(&mut blob, recipe.version)?;
-    push_u64(&mut blob, recipe.next)?;
-    push_u64(&mut blob, recipe.length)?;
-    push_u32(&mut blob, rows.len() as u32)?;
-    push_rows(&mut blob, rows)?;
-    push_sparse(&mut blob, sparse)?;
-    push_sum(&mut blob, recipe.set)?;
-    Ok(blob)
-}
-
-fn blob_len(rows: &[Row], sparse: &[Id]) -> usize
-    requires rows { length rows.now < 2 ^ 32 }
-    requires sparse { length sparse.now < 2 ^ 32 }
-{
-    52 + 32 * rows.len() + 8 * sparse.len()
-}
-
-fn push_rows(blob: &mut Vec<u8>, rows: &[Row]) -> Result<(), AllocError>
-    ensures { OnOk result (blob.new.items ≡ blob.old.items ++ flat_map row_bytes_1 rows.now) }
-{
-    for row in rows {
-        blob.extend_from_slice(&row.fp.0)?;
-        push_u64(blob, row.id)?;
-        push_u32(blob, row.len)?;
-    }
-    Ok(())
-}
-
 /// The recipe of a version of a set that the bytes spell, or none exactly where they spell none.
 pub fn decode_recipe(
     alloc: Global,
@@ -75,7 +41,21 @@ pub fn decode_recipe(
     ensures found { (r : _) → result ≡ Ok (Some r) → SpellsRecipe set version bytes.now r }
     ensures none { result ≡ Ok None → IsNoRecipe set version bytes.now }
 {
-    Err(Memory)
+    if is_second(bytes) {
+        return decode2(alloc, bytes, set, version);
+    }
+    match read_plain(alloc, bytes, set, version) {
+        Ok(recipe) => Ok(Some(recipe)),
+        Err(Unread::Spelling) => Ok(None),
+        Err(Unread::Memory) => Err(Memory),
+    }
+}
+
+// Whether the bytes begin as a recipe of format 2 does, or are no recipe.
+fn is_second(bytes: &[u8]) -> bool
+    ensures { IsTrue result ↔ slice_index bytes.now 3 ≡ 50 }
+{
+    matches!(bytes, [_, _, _, b'2', ..])
 }
 
 /// The blob of a floor, which is from 1 to 4,294,967,294. Takes no memory.
@@ -141,7 +121,16 @@ pub fn get_recipe<S: Shelf>(
     ensures gets { (S.told shelf.new).gets ≡ (S.told shelf.old).gets }
     ensures causes { HasCauses (S.told shelf.old).faults (S.told shelf.new).faults (IsRecipeDamage (S.told shelf.old).blobs set version) result }
 {
-    Err(Fault::Memory)
+    let name = recipe_at(set, version);
+    let bytes = match shelf.get(alloc, name) {
+        Ok(Some(bytes)) => bytes,
+        Ok(None) => return Err(damaged(name, Why::Absent)),
+        Err(refused) => return Err(fault_of(shelf, refused)),
+    };
+    match decode_recipe(alloc, bytes.as_slice(), set, version)? {
+        Some(recipe) => Ok(recipe),
+        None => Err(damaged(name, Why::Spelling)),
+    }
 }
 
 /// The floor of a set, as the shelf has it: 1 where there is none. `StoreFault`, `Damaged`, `Memory`.
@@ -151,7 +140,16 @@ pub fn get_floor<S: Shelf>(alloc: Global, shelf: &mut S, set: Set) -> Result<Ver
     ensures gets { (S.told shelf.new).gets ≡ (S.told shelf.old).gets }
     ensures causes { HasCauses (S.told shelf.old).faults (S.told shelf.new).faults (IsFloorDamage (S.told shelf.old).blobs set) result }
 {
-    Err(Fault::Memory)
+    let name = floor_at(set);
+    let bytes = match shelf.get(alloc, name) {
+        Ok(Some(bytes)) => bytes,
+        Ok(None) => return Ok(1),
+        Err(refused) => return Err(fault_of(shelf, refused)),
+    };
+    match decode_floor(bytes.as_slice(), set) {
+        Some(floor) => Ok(floor),
+        None => Err(damaged(name, Why::Spelling)),
+    }
 }
 
 /// Sets the floor of a set. `StoreFault`. Takes no memory.
@@ -202,5 +200,24 @@ fn recipe_at(set: Set, version: Version) -> Name
     Name {
         kind: Kind::Recipe,
         number: u64::from(set) * 4_294_967_296 + u64::from(version),
+    }
+}
+
+fn floor_at(set: Set) -> Name
+    ensures { result ≡ floor_name set }
+{
+    Name {
+        kind: Kind::Floor,
+        number: u64::from(set),
+    }
+}
+
+fn damaged(name: Name, why: Why) -> Fault
+    ensures { result ≡ fault.Damaged name.kind name.number why }
+{
+    Fault::Damaged {
+        kind: name.kind,
+        number: name.number,
+        why,
     }
 }

@@ -1,11 +1,11 @@
-use Rattle.std.proofs.Common.{◌≡◌, ◌∙◌, ℕ, ◌<◌, Bool, true, false, not, List, [], length, take, ap, sym, arith, refl, subst}
+use Rattle.std.proofs.Common.{◌≡◌, ◌∙◌, ℕ, Bool, true, false, not, List, [], length, take, ap, arith, refl, subst}
 use Rattle.std.specs.HashSet as bag
 use Rattle.std.specs.List.{list_any, IsDistinct}
 use Rattle.std.proofs.Math.Seq.{take-length}
 use Rattle.vault_types.specs.declared.Fp.{Fp}
 use Rattle.vault_types.specs.declared.TableRow.{TableRow}
 use Rattle.vault_types.specs.Names.{same_fp}
-use Rattle.container_store.proofs.Apart.{fps, IsSeen, seen_none, seen_more, seen_twice}
+use Rattle.container_store.proofs.Apart.{fps, seen_none, seen_more, seen_twice}
 use Rattle.container_store.proofs.reading.are_distinct.Goals as goal
 
 is_old : (added was : Bool) → added ≡ not was → added ≡ false → was ≡ true

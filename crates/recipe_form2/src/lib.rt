@@ -2,6 +2,7 @@
 //! version's bytes.
 #![tactic(auto)]
 
+mod reading;
 mod writing;
 
 pub use writing::encode2;
@@ -9,6 +10,8 @@ pub use writing::encode2;
 ghost use Rattle.std.specs.Prelude.{◌≡◌, Some, None, Ok};
 ghost use Rattle.recipe_form2.specs.Spelling.{SpellsRecipe2, IsNoRecipe2};
 
+use crate::reading::read_recipe;
+use blob_parts::Unread;
 use std::alloc::Global;
 use vault_types::{Memory, Recipe, Set, Version};
 
@@ -22,5 +25,9 @@ pub fn decode2(
     ensures found { (r : _) → result ≡ Ok (Some r) → SpellsRecipe2 set version bytes.now r }
     ensures none { result ≡ Ok None → IsNoRecipe2 set version bytes.now }
 {
-    Err(Memory)
+    match read_recipe(alloc, bytes, set, version) {
+        Ok(recipe) => Ok(Some(recipe)),
+        Err(Unread::Spelling) => Ok(None),
+        Err(Unread::Memory) => Err(Memory),
+    }
 }

@@ -1,8 +1,9 @@
 //! Containers on a shelf: a table says which chunks a container has, and a payload has their bytes.
 #![tactic(auto)]
 
-ghost use Rattle.std.specs.Prelude.{◌≡◌, ◌≤◌, IfSome, IfNone, ◌⊎◌, ◌++◌, flat_map, List, ℕ, Option, Some, None, IfOk, OnOk, Ok, IsErrOf};
+ghost use Rattle.std.specs.Prelude.{◌≡◌, [], ◌≤◌, IfSome, IfNone, ◌⊎◌, ◌++◌, flat_map, List, ℕ, Option, Some, None, IfOk, OnOk, Ok, IsErrOf};
 ghost use Rattle.vault_types.specs.declared.Fault.TheVariants as fault;
+ghost use Rattle.vault_types.specs.declared.Table.{Table as Tables};
 ghost use Rattle.vault_types.specs.Tables.{IsTable, payload_len};
 ghost use Rattle.vault_types.specs.Blobs.{table_bytes, table_row_bytes, SpellsTable};
 ghost use Rattle.vault_types.specs.Shelf.{table_name, payload_name};
@@ -195,3 +196,9 @@ fn name_of(kind: Kind, number: u64) -> Name
 {
     Name { kind, number }
 }
+
+/// Each table has one spelling, and no spelling of a table begins another of the same container.
+pub fn tables_are_told_apart()
+    ensures one { (id : ℕ) (t : Tables) (a b : List ℕ) → SpellsTable id a t → SpellsTable id b t → a ≡ b }
+    ensures apart { (id : ℕ) (t u : Tables) (a b more : List ℕ) → SpellsTable id a t → SpellsTable id b u → a ++ more ≡ b → (t ≡ u) × (more ≡ []) }
+{}

@@ -7,7 +7,8 @@ mod writing;
 
 pub use writing::encode2;
 
-ghost use Rattle.std.specs.Prelude.{◌≡◌, Some, None, Ok};
+ghost use Rattle.std.specs.Prelude.{◌≡◌, ◌++◌, ℕ, List, [], Some, None, Ok};
+ghost use Rattle.vault_types.specs.declared.Recipe.{Recipe as Recipes};
 ghost use Rattle.recipe_form2.specs.Spelling.{SpellsRecipe2, IsNoRecipe2};
 
 use crate::reading::read_recipe;
@@ -31,3 +32,10 @@ pub fn decode2(
         Err(Unread::Memory) => Err(Memory),
     }
 }
+
+/// Of the recipes that have a sum of their version, each has one spelling, and no spelling begins another of the same
+/// version.
+pub fn recipes_are_told_apart()
+    ensures one { (s v : ℕ) (r : Recipes) (a b : List ℕ) → SpellsRecipe2 s v a r → SpellsRecipe2 s v b r → a ≡ b }
+    ensures apart { (s v : ℕ) (r q : Recipes) (a b more : List ℕ) → SpellsRecipe2 s v a r → SpellsRecipe2 s v b q → a ++ more ≡ b → (r ≡ q) × (more ≡ []) }
+{}

@@ -4,8 +4,9 @@
 
 mod plain;
 
-ghost use Rattle.std.specs.Prelude.{◌≡◌, ◌↔◌, IsTrue, slice_index, List, ℕ, Option, Some, None, IfOk, OnOk, IfSome, IfNone, Ok, IsErrOf};
+ghost use Rattle.std.specs.Prelude.{◌≡◌, ◌++◌, [], ◌↔◌, IsTrue, slice_index, List, ℕ, Option, Some, None, IfOk, OnOk, IfSome, IfNone, Ok, IsErrOf};
 ghost use Rattle.vault_types.specs.declared.Fault.TheVariants as fault;
+ghost use Rattle.vault_types.specs.declared.Recipe.{Recipe as Recipes};
 ghost use Rattle.vault_types.specs.Blobs.{recipe_bytes, floor_bytes, IsRecipe, IsVersion, SpellsRecipe, SpellsFloor};
 ghost use Rattle.vault_types.specs.Shelf.{recipe_name, floor_name};
 ghost use Rattle.vault_traits.specs.Counts.{HasFailed};
@@ -221,3 +222,15 @@ fn damaged(name: Name, why: Why) -> Fault
         why,
     }
 }
+
+/// Each recipe has one spelling, and no spelling of a recipe, in either format, begins another of the same version.
+pub fn recipes_are_told_apart()
+    ensures one { (s v : ℕ) (r : Recipes) (a b : List ℕ) → SpellsRecipe s v a r → SpellsRecipe s v b r → a ≡ b }
+    ensures apart { (s v : ℕ) (r q : Recipes) (a b more : List ℕ) → SpellsRecipe s v a r → SpellsRecipe s v b q → a ++ more ≡ b → (r ≡ q) × (more ≡ []) }
+{}
+
+/// Each floor has one spelling, and no spelling of a floor begins another of the same set.
+pub fn floors_are_told_apart()
+    ensures one { (s f : ℕ) (a b : List ℕ) → SpellsFloor s a f → SpellsFloor s b f → a ≡ b }
+    ensures apart { (s f g : ℕ) (a b more : List ℕ) → SpellsFloor s a f → SpellsFloor s b g → a ++ more ≡ b → (f ≡ g) × (more ≡ []) }
+{}

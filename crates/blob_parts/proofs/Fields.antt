@@ -246,8 +246,7 @@ module _ {X : Type 0} {field : Field X} {spell : X → List ℕ} {Fits : X → T
         let a = bind_some (number_at w32 bytes) (λ n. wide_at width field n.0 n.1) (xs, rest) e in
         let t = u32_field.takes bytes a.0.0 a.0.1 fits a.1 in
         let u = (wide_field is width wide a.0.0).takes a.0.1 xs rest t.0.rest_fits a.2 in
-        let len : a.0.0 ≡ length xs = sym u.1.0 in
-        (
+        let len : a.0.0 ≡ length xs = sym u.1.0 in (
           subst (λ (n : ℕ). Takes bytes (to_be_bytes w32 n ++ flat_map spell xs) rest) len (Takes-then bytes (to_be_bytes w32 a.0.0) a.0.1 (flat_map spell xs) rest t.0 u.0),
           (omega (arith, t.1), u.1.1),
         );

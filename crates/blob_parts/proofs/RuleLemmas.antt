@@ -40,14 +40,14 @@ ascending_next ns p i e lt ascending =
 pub ascending_before : (ns : List ℕ) (p i : ℕ) → suc p ≡ i → i < length ns → get_or ns p 0 < get_or ns i 0 → IsAscending (drop i ns) → IsAscending (drop p ns)
 ascending_before ns p i e lt less ascending =
     let two : drop p ns ≡ get_or ns p 0 ∷ get_or ns i 0 ∷ drop (suc i) ns =
-        drop-cons ns p 0 (omega arith) ∙ ap (λ (k : ℕ). get_or ns p 0 ∷ drop k ns) e ∙ ap (λ (xs : List ℕ). get_or ns p 0 ∷ xs) (drop-cons ns i 0 lt)
+    drop-cons ns p 0 (omega arith) ∙ ap (λ (k : ℕ). get_or ns p 0 ∷ drop k ns) e ∙ ap (λ (xs : List ℕ). get_or ns p 0 ∷ xs) (drop-cons ns i 0 lt)
     in
     subst IsAscending (sym two) (ascending_cons (get_or ns p 0) (get_or ns i 0) (drop (suc i) ns) less (subst IsAscending (drop-cons ns i 0 lt) ascending))
 
 pub ascending_less : (ns : List ℕ) (p i : ℕ) → suc p ≡ i → i < length ns → IsAscending (drop p ns) → get_or ns p 0 < get_or ns i 0
 ascending_less ns p i e lt ascending =
     let two : drop p ns ≡ get_or ns p 0 ∷ get_or ns i 0 ∷ drop (suc i) ns =
-        drop-cons ns p 0 (omega arith) ∙ ap (λ (k : ℕ). get_or ns p 0 ∷ drop k ns) e ∙ ap (λ (xs : List ℕ). get_or ns p 0 ∷ xs) (drop-cons ns i 0 lt)
+    drop-cons ns p 0 (omega arith) ∙ ap (λ (k : ℕ). get_or ns p 0 ∷ drop k ns) e ∙ ap (λ (xs : List ℕ). get_or ns p 0 ∷ xs) (drop-cons ns i 0 lt)
     in
     (subst IsAscending two ascending).0.0
 

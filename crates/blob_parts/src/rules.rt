@@ -40,8 +40,7 @@ pub fn has_rules(alloc: Global, recipe: &Recipe) -> Result<bool, Memory>
 fn are_below(rows: &[Row], next: Id) -> bool
     ensures { IsTrue result ↔ All (λ r. (1 ≤ r.id) × (r.id < next) × (1 ≤ r.len) × (r.len ≤ 65536)) rows.now }
 {
-    rows.iter()
-        .all(|row| 1 <= row.id && row.id < next && 1 <= row.len && row.len <= 65_536)
+    rows.iter().all(|row| 1 <= row.id && row.id < next && 1 <= row.len && row.len <= 65_536)
 }
 
 fn total_len(rows: &[Row]) -> u64

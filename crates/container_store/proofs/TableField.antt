@@ -46,8 +46,7 @@ table_back t = (table_tag, (t.id, (t.rows, t.payload_sum)))
 
 there : (p : Parts) → PartsFit p → HasWidths (table_of p) × (table_head (table_of p) ≡ parts_bytes p)
 there p fits =
-    let tag : table_tag ≡ p.0 = sym (eqb-true p.0 table_tag fits.0.1) in
-    (
+    let tag : table_tag ≡ p.0 = sym (eqb-true p.0 table_tag fits.0.1) in (
       record { id = fits.1.0; few = fits.1.1.0.0; rows = fits.1.1.0.1; payload_sum = fits.1.1.1 },
       ap (λ (n : ℕ). to_be_bytes w32 n ++ (to_be_bytes w64 p.1.0 ++ (rows_bytes p.1.1.0 ++ p.1.1.1.0))) tag,
     )

@@ -17,10 +17,10 @@ ghost use Rattle.container_store.specs.Damages.{IsNoTable, IsTableDamage, IsWron
 mod reading;
 mod sealed;
 
+use crate::reading::{payload_len, read_table};
 use blob_parts::{Unread, fault_of, push_sum, push_u32, push_u64};
 pub use sealed::Sealed;
 use sha1::Sha1;
-use crate::reading::{payload_len, read_table};
 use std::alloc::{AllocError, Global};
 use vault_traits::{Failed, Shelf};
 use vault_types::{Fault, Fp, Id, Kind, Memory, Name, Table, TableRow, Why};
@@ -202,3 +202,6 @@ pub fn tables_are_told_apart()
     ensures one { (id : ℕ) (t : Tables) (a b : List ℕ) → SpellsTable id a t → SpellsTable id b t → a ≡ b }
     ensures apart { (id : ℕ) (t u : Tables) (a b more : List ℕ) → SpellsTable id a t → SpellsTable id b u → a ++ more ≡ b → (t ≡ u) × (more ≡ []) }
 {}
+
+#[cfg(test)]
+mod tests;

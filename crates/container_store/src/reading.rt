@@ -98,11 +98,7 @@ fn rows_at(alloc: Global, bytes: &[u8]) -> Result<(Vec<TableRow>, &[u8]), Unread
     some_rows(alloc, count, rest)
 }
 
-fn some_rows(
-    alloc: Global,
-    count: u32,
-    bytes: &[u8],
-) -> Result<(Vec<TableRow>, &[u8]), Unread>
+fn some_rows(alloc: Global, count: u32, bytes: &[u8]) -> Result<(Vec<TableRow>, &[u8]), Unread>
     ensures { Gives (λ x. (x.0.items, x.1.now)) result (wide_at 24 table_row_at count bytes.now) }
 {
     let count = count as usize;
@@ -112,11 +108,7 @@ fn some_rows(
     many_rows(alloc, count, bytes)
 }
 
-fn many_rows(
-    alloc: Global,
-    count: usize,
-    bytes: &[u8],
-) -> Result<(Vec<TableRow>, &[u8]), Unread>
+fn many_rows(alloc: Global, count: usize, bytes: &[u8]) -> Result<(Vec<TableRow>, &[u8]), Unread>
     ensures { Gives (λ x. (x.0.items, x.1.now)) result (many_at table_row_at count bytes.now) }
 {
     let mut rows = Vec::with_capacity(alloc, count)?;

@@ -58,8 +58,7 @@ there : (set : ℕ) (p : Parts) → PartsFit p → IsSecond set (recipe_of set p
 there set p fits =
     let tag : tag_2 ≡ p.0 = sym (eqb-true p.0 tag_2 fits.0.1) in
     let rows = fits.1.1.1.1.1.0 in
-    let rest = to_be_bytes w32 p.1.0 ++ (to_be_bytes w64 p.1.1.0 ++ (to_be_bytes w64 p.1.1.1.0 ++ (p.1.1.1.1.0.0 ++ (all_runs_bytes p.1.1.1.1.1.0 ++ sparse_bytes p.1.1.1.1.1.1)))) in
-    (
+    let rest = to_be_bytes w32 p.1.0 ++ (to_be_bytes w64 p.1.1.0 ++ (to_be_bytes w64 p.1.1.1.0 ++ (p.1.1.1.1.0.0 ++ (all_runs_bytes p.1.1.1.1.1.0 ++ sparse_bytes p.1.1.1.1.1.1)))) in (
       record {
         set = refl;
         whole = refl;
@@ -92,8 +91,7 @@ back : (set : ℕ) (r : Recipe) → IsSecond set r → PartsFit (recipe_back r) 
 unfolding recipe_back
 back set r fits =
     let w = fits.widths in
-    let some = some_of r.whole fits.whole in
-    (
+    let some = some_of r.whole fits.whole in (
       ((omega arith, refl), (w.version, (w.next, (w.len, (sum_of r.whole fits.whole w.whole, ((has_runs r.rows w.rows fits.begins w.few, lt-ltb (length r.rows) 4294967296 w.few), w.sparse)))))),
       λ i. record { set = (sym fits.set) i; version = r.version; next = r.next; length = r.length; rows = r.rows; sparse = r.sparse; whole = some i },
     )

@@ -17,9 +17,9 @@ pub goes_on : (before : ℕ) (front : List Row) (count i : ℕ) (bytes : List �
 goes_on before front count i bytes run after total lt h so_far =
     let k : count - i ≡ suc (count - (i + 1)) = omega arith in
     let one : with_front front (runs_at before (count - i) bytes) ≡ with_front (front ++ run.rows) (runs_at run.id (count - (i + 1)) after) =
-        ap (λ (n : ℕ). with_front front (runs_at before n bytes)) k
-        ∙ ap (λ (r : Option (Run × List ℕ)). with_front front (r >>= λ x. runs_at x.0.id (count - (i + 1)) x.1 >>= λ xs. Some (x.0.rows ++ xs.0, xs.1))) h
-        ∙ regroup front run.rows (runs_at run.id (count - (i + 1)) after)
+    ap (λ (n : ℕ). with_front front (runs_at before n bytes)) k
+    ∙ ap (λ (r : Option (Run × List ℕ)). with_front front (r >>= λ x. runs_at x.0.id (count - (i + 1)) x.1 >>= λ xs. Some (x.0.rows ++ xs.0, xs.1))) h
+    ∙ regroup front run.rows (runs_at run.id (count - (i + 1)) after)
     in
     sym one ∙ so_far
 
@@ -29,7 +29,7 @@ ends unread.Memory before front count i bytes total lt h so_far = tt
 ends unread.Spelling before front count i bytes total lt h so_far =
     let k : count - i ≡ suc (count - (i + 1)) = omega arith in
     let one : with_front front (runs_at before (count - i) bytes) ≡ None =
-        ap (λ (n : ℕ). with_front front (runs_at before n bytes)) k
-        ∙ ap (λ (r : Option (Run × List ℕ)). with_front front (r >>= λ x. runs_at x.0.id (count - (i + 1)) x.1 >>= λ xs. Some (x.0.rows ++ xs.0, xs.1))) h
+    ap (λ (n : ℕ). with_front front (runs_at before n bytes)) k
+    ∙ ap (λ (r : Option (Run × List ℕ)). with_front front (r >>= λ x. runs_at x.0.id (count - (i + 1)) x.1 >>= λ xs. Some (x.0.rows ++ xs.0, xs.1))) h
     in
     sym so_far ∙ one

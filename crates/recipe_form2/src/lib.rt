@@ -5,8 +5,6 @@
 mod reading;
 mod writing;
 
-pub use writing::encode2;
-
 ghost use Rattle.std.specs.Prelude.{◌≡◌, ◌++◌, ℕ, List, [], Some, None, Ok};
 ghost use Rattle.vault_types.specs.declared.Recipe.{Recipe as Recipes};
 ghost use Rattle.recipe_form2.specs.Spelling.{SpellsRecipe2, IsNoRecipe2};
@@ -15,6 +13,7 @@ use crate::reading::read_recipe;
 use blob_parts::Unread;
 use std::alloc::Global;
 use vault_types::{Memory, Recipe, Set, Version};
+pub use writing::encode2;
 
 /// The recipe of a version of a set that the bytes spell in format 2, or none exactly where they spell none.
 pub fn decode2(
@@ -39,3 +38,6 @@ pub fn recipes_are_told_apart()
     ensures one { (s v : ℕ) (r : Recipes) (a b : List ℕ) → SpellsRecipe2 s v a r → SpellsRecipe2 s v b r → a ≡ b }
     ensures apart { (s v : ℕ) (r q : Recipes) (a b more : List ℕ) → SpellsRecipe2 s v a r → SpellsRecipe2 s v b q → a ++ more ≡ b → (r ≡ q) × (more ≡ []) }
 {}
+
+#[cfg(test)]
+mod tests;

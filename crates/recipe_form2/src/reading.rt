@@ -118,12 +118,7 @@ fn run_rows(alloc: Global, id: Id, bytes: &[u8]) -> Result<(Vec<Row>, &[u8]), Un
     some_rows(alloc, id, count, rest)
 }
 
-fn some_rows(
-    alloc: Global,
-    id: Id,
-    count: u32,
-    bytes: &[u8],
-) -> Result<(Vec<Row>, &[u8]), Unread>
+fn some_rows(alloc: Global, id: Id, count: u32, bytes: &[u8]) -> Result<(Vec<Row>, &[u8]), Unread>
     ensures { Gives (λ x. (x.0.items, x.1.now)) result (wide_at 24 (row_at id) count bytes.now) }
 {
     let count = count as usize;
@@ -133,12 +128,7 @@ fn some_rows(
     many_rows(alloc, id, count, bytes)
 }
 
-fn many_rows(
-    alloc: Global,
-    id: Id,
-    count: usize,
-    bytes: &[u8],
-) -> Result<(Vec<Row>, &[u8]), Unread>
+fn many_rows(alloc: Global, id: Id, count: usize, bytes: &[u8]) -> Result<(Vec<Row>, &[u8]), Unread>
     ensures { Gives (λ x. (x.0.items, x.1.now)) result (many_at (row_at id) count bytes.now) }
 {
     let mut rows = Vec::with_capacity(alloc, count)?;

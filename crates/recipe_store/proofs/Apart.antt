@@ -64,7 +64,7 @@ fits f high = ((omega arith, refl), omega arith)
 pub floors_apart : (s f g : ℕ) (a b more : List ℕ) → SpellsFloor s a f → SpellsFloor s b g → a ++ more ≡ b → (f ≡ g) × (more ≡ [])
 floors_apart s f g a b more first second e =
     let same =
-        blob_same floor_field s (floor_tag, f) (floor_tag, g) more (fits f first.rules.1) (fits g second.rules.1)
-        (ap (λ (x : List ℕ). x ++ more) (sym first.spelled) ∙ e ∙ second.spelled)
+    blob_same floor_field s (floor_tag, f) (floor_tag, g) more (fits f first.rules.1) (fits g second.rules.1)
+    (ap (λ (x : List ℕ). x ++ more) (sym first.spelled) ∙ e ∙ second.spelled)
     in
     (ap (λ (p : ℕ × ℕ). p.1) same.0, same.1)

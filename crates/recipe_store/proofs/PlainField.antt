@@ -59,8 +59,7 @@ plain_back r = (plain_tag, (r.version, (r.next, (r.length, (r.rows, r.sparse))))
 there : (set : ℕ) (p : Parts) → PartsFit p → IsPlain set (plain_of set p) × (plain_head (plain_of set p) ≡ parts_bytes p)
 there set p fits =
     let tag : plain_tag ≡ p.0 = sym (eqb-true p.0 plain_tag fits.0.1) in
-    let rest = to_be_bytes w32 p.1.0 ++ (to_be_bytes w64 p.1.1.0 ++ (to_be_bytes w64 p.1.1.1.0 ++ (rows_bytes p.1.1.1.1.0 ++ ids_bytes p.1.1.1.1.1))) in
-    (
+    let rest = to_be_bytes w32 p.1.0 ++ (to_be_bytes w64 p.1.1.0 ++ (to_be_bytes w64 p.1.1.1.0 ++ (rows_bytes p.1.1.1.1.0 ++ ids_bytes p.1.1.1.1.1))) in (
       record {
         set = refl;
         whole = refl;
@@ -72,8 +71,7 @@ there set p fits =
 back : (set : ℕ) (r : Recipe) → IsPlain set r → PartsFit (plain_back r) × (plain_of set (plain_back r) ≡ r)
 unfolding plain_back
 back set r fits =
-    let w = fits.widths in
-    (
+    let w = fits.widths in (
       ((omega arith, refl), (w.version, (w.next, (w.len, ((w.few, w.rows), w.sparse))))),
       λ i. record { set = (sym fits.set) i; version = r.version; next = r.next; length = r.length; rows = r.rows; sparse = r.sparse; whole = (sym fits.whole) i },
     )

@@ -14,9 +14,9 @@ ghost use Rattle.vault_traits.specs.Shelf.{IsAsBefore, IsWritten, MayBeWritten, 
 ghost use Rattle.blob_parts.specs.Causes.{Has, HasCauses, HasStoreFault, IsUndamaged};
 ghost use Rattle.recipe_store.specs.Damages.{IsNoRecipe, IsNoFloor, IsRecipeDamage, IsFloorDamage, IsFloorIn};
 
+use crate::plain::{encode_plain, read_plain};
 use blob_parts::{Unread, fault_of, sum_of};
 use recipe_form2::{decode2, encode2};
-use crate::plain::{encode_plain, read_plain};
 use std::alloc::Global;
 use vault_traits::{Failed, Refused, Shelf};
 use vault_types::{Fault, Kind, Memory, Name, Recipe, Set, Version, Why};
@@ -234,3 +234,6 @@ pub fn floors_are_told_apart()
     ensures one { (s f : ℕ) (a b : List ℕ) → SpellsFloor s a f → SpellsFloor s b f → a ≡ b }
     ensures apart { (s f g : ℕ) (a b more : List ℕ) → SpellsFloor s a f → SpellsFloor s b g → a ++ more ≡ b → (f ≡ g) × (more ≡ []) }
 {}
+
+#[cfg(test)]
+mod tests;

@@ -22,8 +22,8 @@ returns-in_err-recipe-clause-none c spelling r spells =
 pub returns-then-not-is_empty-clause-none : goal.returns-then-not-is_empty-clause-none
 returns-then-not-is_empty-clause-none c spelling r spells =
     let same =
-        blob_other (recipe_field c.args.set) c.args.set c.args.bytes.now c.in-Some.body.now c.in-Some.ensures.found c.in_ok-recipe.recipe c.in_ok-recipe.rest.now c.in_ok-recipe.ensures
-        r (is_second c.args.set c.args.version c.args.bytes.now r spells) (second_spelled c.args.set c.args.version c.args.bytes.now r spells)
+    blob_other (recipe_field c.args.set) c.args.set c.args.bytes.now c.in-Some.body.now c.in-Some.ensures.found c.in_ok-recipe.recipe c.in_ok-recipe.rest.now c.in_ok-recipe.ensures
+    r (is_second c.args.set c.args.version c.args.bytes.now r spells) (second_spelled c.args.set c.args.version c.args.bytes.now r spells)
     in
     elim c.then-not-is_empty.branch [
       | then-not-is_empty-via-then-not-is_empty w ↦ not_empty c.in_ok-recipe.rest.now (sym c.is_empty.ensures ∙ w.if-not-is_empty.true) same.1
@@ -37,8 +37,8 @@ has_rules-requires c =
 pub returns-then-not-branch-clause-none : goal.returns-then-not-branch-clause-none
 returns-then-not-branch-clause-none c spelling r spells =
     let same =
-        blob_other (recipe_field c.args.set) c.args.set c.args.bytes.now c.in-Some.body.now c.in-Some.ensures.found c.in_ok-recipe.recipe c.in_ok-recipe.rest.now c.in_ok-recipe.ensures
-        r (is_second c.args.set c.args.version c.args.bytes.now r spells) (second_spelled c.args.set c.args.version c.args.bytes.now r spells)
+    blob_other (recipe_field c.args.set) c.args.set c.args.bytes.now c.in-Some.body.now c.in-Some.ensures.found c.in_ok-recipe.recipe c.in_ok-recipe.rest.now c.in_ok-recipe.ensures
+    r (is_second c.args.set c.args.version c.args.bytes.now r spells) (second_spelled c.args.set c.args.version c.args.bytes.now r spells)
     in
     let passes = c.in_ok-has_rules.ensures.no (subst IsRecipe (sym same.0) spells.spells.rules) in
     absurd (cc (sym passes ∙ c.if-not-branch.true))

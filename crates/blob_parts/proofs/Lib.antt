@@ -1,0 +1,5 @@
+pub mod SumLemmas
+pub mod SparseLemmas
+pub mod Fields
+pub mod Loop
+pub mod RuleLemmas

@@ -1,0 +1,4 @@
+pub mod Causes
+pub mod Writes
+pub mod Reading
+pub mod Recipes

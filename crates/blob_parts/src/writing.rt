@@ -1,0 +1,37 @@
+// Numbers in a blob.
+ghost use Rattle.std.specs.Prelude.{◌≡◌, ◌++◌, ◌<◌, ◌^◌, length, OnOk};
+ghost use Rattle.vault_types.specs.Blobs.{u32_bytes, u64_bytes, sparse_bytes};
+
+use byteorder::{BigEndian, ByteOrder};
+use std::alloc::AllocError;
+use vault_types::Id;
+
+/// Adds a number in four bytes, the highest first.
+pub fn push_u32(blob: &mut Vec<u8>, number: u32) -> Result<(), AllocError>
+    ensures { OnOk result (blob.new.items ≡ blob.old.items ++ u32_bytes number) }
+{
+    let mut bytes = [0; 4];
+    BigEndian::write_u32(&mut bytes, number);
+    blob.extend_from_slice(&bytes)
+}
+
+/// Adds a number in eight bytes, the highest first.
+pub fn push_u64(blob: &mut Vec<u8>, number: u64) -> Result<(), AllocError>
+    ensures { OnOk result (blob.new.items ≡ blob.old.items ++ u64_bytes number) }
+{
+    let mut bytes = [0; 8];
+    BigEndian::write_u64(&mut bytes, number);
+    blob.extend_from_slice(&bytes)
+}
+
+/// Adds the sparse list of a recipe: its length and its ids.
+pub fn push_sparse(blob: &mut Vec<u8>, ids: &[Id]) -> Result<(), AllocError>
+    requires { length ids.now < 2 ^ 32 }
+    ensures { OnOk result (blob.new.items ≡ blob.old.items ++ sparse_bytes ids.now) }
+{
+    push_u32(blob, ids.len() as u32)?;
+    for id in ids {
+        push_u64(blob, *id)?;
+    }
+    Ok(())
+}

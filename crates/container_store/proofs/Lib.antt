@@ -1,0 +1,4 @@
+pub mod Along
+pub mod TableLemmas
+pub mod TableField
+pub mod Apart

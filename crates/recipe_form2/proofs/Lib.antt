@@ -1,0 +1,4 @@
+pub mod RunLemmas
+pub mod RunLoop
+pub mod RunField
+pub mod RecipeField

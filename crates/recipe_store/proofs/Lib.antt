@@ -1,0 +1,2 @@
+pub mod PlainField
+pub mod Apart

@@ -1,1 +1,5 @@
 mod Pieces
+mod Overlaid
+mod FloorLemmas
+mod Derived
+mod Listing

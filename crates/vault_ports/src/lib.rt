@@ -1,10 +1,13 @@
 //! The devices that a store is run over, in memory: those that never fail, and those that fail at numbered calls.
 #![tactic(auto)]
 
+mod floors;
+mod mem_shelf;
 mod numbered;
 mod sinks;
 mod sources;
 
+pub use mem_shelf::MemShelf;
 pub use sinks::{FaultSink, MemSink};
 pub use sources::{FaultSource, MemSource};
 pub use vault_traits::{Failed, Places, Refused, Shelf, Sink, Source};

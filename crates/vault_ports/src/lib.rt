@@ -1,12 +1,14 @@
 //! The devices that a store is run over, in memory: those that never fail, and those that fail at numbered calls.
 #![tactic(auto)]
 
+mod fault_shelf;
 mod floors;
 mod mem_shelf;
 mod numbered;
 mod sinks;
 mod sources;
 
+pub use fault_shelf::FaultShelf;
 pub use mem_shelf::MemShelf;
 pub use sinks::{FaultSink, MemSink};
 pub use sources::{FaultSource, MemSource};

@@ -3,3 +3,4 @@ mod Overlaid
 mod FloorLemmas
 mod Derived
 mod Listing
+mod Named

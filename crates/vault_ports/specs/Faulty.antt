@@ -1,13 +1,11 @@
 -- What is seen of a shelf whose numbered calls fail.
-use Rattle.std.specs.Prelude.{◌≡◌, ℕ, List, Bool, true, false, cond, Option, Result, Ok, Err, Contains, refl}
+use Rattle.std.specs.Prelude.{◌≡◌, ℕ, List, Bool, cond, Option, Contains, refl}
 use Rattle.std.specs.Coded.{Coded, code_by, coded×, coded_ℕ, coded_list, coded_bool}
 use Rattle.vault_types.specs.declared.Name.{Name}
 use Rattle.vault_types.specs.Shelf.{Blobs, with_blob}
-use Rattle.vault_traits.specs.declared.names.Refused.{Refused}
-use Rattle.vault_traits.specs.declared.names.Refused.TheVariants as refused
 use Rattle.vault_traits.specs.Codes.{coded_blobs}
 use Rattle.vault_traits.specs.Counts.{counted}
-use Rattle.vault_ports.specs.Streams.{counted_if}
+use Rattle.vault_ports.specs.Failing.{counted_if}
 
 -- the blobs, and the count of payload gets; the numbers of the calls that fail, and whether a write that fails is done;
 -- how many calls there were, and how many failed
@@ -29,12 +27,6 @@ coded_faulty = code_by (Blobs × (ℕ × (List ℕ × (Bool × (ℕ × ℕ)))))
 -- the number of the call that comes now is among those
 abbrev pub FailsNow : FaultyShelf → Type 0
 FailsNow s = Contains s.fail (counted s.calls)
-
--- the device failed
-abbrev pub is_failed : {T : Type 0} → Result T Refused → Bool
-is_failed (Ok x) = false
-is_failed (Err refused.Failed) = true
-is_failed (Err refused.Memory) = false
 
 -- the call and its failure are counted
 pub record IsCounted (before after : FaultyShelf) (failed : Bool) : Type 0 where

@@ -1,6 +1,5 @@
 -- What is seen of sources and sinks in memory.
-use Rattle.std.specs.Prelude.{ℕ, List, Bool, cond}
-use Rattle.vault_traits.specs.Counts.{counted}
+use Rattle.std.specs.Prelude.{ℕ, List}
 
 -- of a source: what is left, and the most that a read gives
 pub record Giving : Type 0 where
@@ -28,7 +27,3 @@ pub record FaultyTaking : Type 0 where
   pub fail : List ℕ
   pub calls : ℕ
   pub faults : ℕ
-
--- the count of faults after a call that failed, or did not
-abbrev pub counted_if : Bool → ℕ → ℕ
-counted_if failed n = cond failed (counted n) n

@@ -5,7 +5,8 @@ ghost use Rattle.std.specs.FinMap as map;
 ghost use Rattle.vault_types.specs.Shelf.{floor_name};
 ghost use Rattle.vault_traits.specs.Counts.{counted, HasCause, HasFailed};
 ghost use Rattle.vault_traits.specs.Shelf.{gets_after, IsWritten, MayBeWritten, IsAsBefore, IsListing};
-ghost use Rattle.vault_ports.specs.Faulty.{FailsNow, IsCounted, is_failed, done_if};
+ghost use Rattle.vault_ports.specs.Failing.{is_failed};
+ghost use Rattle.vault_ports.specs.Faulty.{FailsNow, IsCounted, done_if};
 
 use crate::mem_shelf::{MemShelf, count_get};
 use crate::numbered::Numbered;

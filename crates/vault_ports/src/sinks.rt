@@ -2,7 +2,7 @@
 ghost use Rattle.std.specs.Prelude.{◌≡◌, ◌<◌, ◌≤◌, ◌-◌, ◌↔◌, ◌⊎◌, min, Some, [], Ok, length, take, IfOk, OnErr, IsErr, is_err, Contains};
 ghost use Rattle.vault_traits.specs.Counts.{counted, HasFailed};
 ghost use Rattle.vault_traits.specs.Told.{Takes};
-ghost use Rattle.vault_ports.specs.Streams.{counted_if};
+ghost use Rattle.vault_ports.specs.Failing.{counted_if};
 
 use crate::numbered::Numbered;
 use std::alloc::Global;

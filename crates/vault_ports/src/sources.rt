@@ -2,7 +2,7 @@
 ghost use Rattle.std.specs.Prelude.{◌≡◌, ◌<◌, ◌≤◌, ◌↔◌, ◌++◌, min, Some, [], Ok, length, take, IfOk, OnErr, IsErr, IfSome, is_err, Contains};
 ghost use Rattle.vault_traits.specs.Counts.{counted, HasFailed};
 ghost use Rattle.vault_traits.specs.Told.{Gives};
-ghost use Rattle.vault_ports.specs.Streams.{counted_if};
+ghost use Rattle.vault_ports.specs.Failing.{counted_if};
 
 use crate::numbered::Numbered;
 use std::marker::Model;
@@ -45,6 +45,17 @@ impl MemSource {
         ensures { result.now ≡ self.now.left }
     {
         &self.bytes[self.at..]
+    }
+}
+
+impl MemSource {
+    // The same bytes, at most so many at a read.
+    pub fn with_piece(self, piece: usize) -> Self
+        requires { 0 < piece }
+        ensures { result ≡ record { left = self.left; piece = piece } }
+    {
+        let MemSource { bytes, at, .. } = self;
+        MemSource { bytes, at, piece }
     }
 }
 

@@ -4,3 +4,5 @@ mod FloorLemmas
 mod Derived
 mod Listing
 mod Named
+mod Chosen
+mod Recorded

@@ -4,6 +4,7 @@ use Rattle.std.specs.Prelude.{is_some}
 use Rattle.std.specs.declared.alloc.Global.{Global}
 use Rattle.std.specs.Option.{option_map, option_or}
 use Rattle.std.specs.Map.{lookup}
+use Rattle.std.specs.List.{AllZip}
 use Rattle.std.specs.BTreeMap.{is_at}
 use Rattle.std.specs.Ordering.{eq_by_cmp}
 use Rattle.std.specs.Cmp.{eq_by_cmp_equiv}
@@ -159,3 +160,20 @@ over_push (x ∷ es) e m = ap (λ (b : Blobs). with_blob b x.0 (Some x.1.items))
 pub over_next : (rest next es fs : Entries) (name : Name) (bytes : Vec ℕ Global) (m : Blobs) → rest ≡ next ++ (name, bytes) ∷ [] → Changed es fs name (Some bytes) → over_all rest (blobs_of es) ≡ m → over_all next (blobs_of fs) ≡ m
 over_next rest next es fs name bytes m popped changed is =
     ap (over_all next) (tree_written es fs name (Some bytes) changed) ∙ sym (over_push next (name, bytes) (blobs_of es)) ∙ ap (λ (l : Entries). over_all l (blobs_of es)) (sym popped) ∙ is
+
+-- ---- a clone
+
+pub all_same : {X : Type 0} (C : X → X → Type 0) → ((x y : X) → C x y → y ≡ x) → (xs ys : List X) → AllZip C xs ys → ys ≡ xs
+all_same C same [] [] all = refl
+all_same C same [] (y ∷ ys) all = absurd all
+all_same C same (x ∷ xs) [] all = absurd all
+all_same C same (x ∷ xs) (y ∷ ys) all = λ i. same x y all.0 i ∷ all_same C same xs ys all.1 i
+
+pub clone_blobs : (C : Name → Name → Type 0) (D : Vec ℕ Global → Vec ℕ Global → Type 0) → ((x y : Name) → C x y → y ≡ x) → ((v w : Vec ℕ Global) → D v w → w.items ≡ v.items) → (es fs : Entries) → AllZip (λ p q. C p.0 q.0 × D p.1 q.1) es fs → blobs_of fs ≡ blobs_of es
+clone_blobs C D same_key same_items [] [] all = refl
+clone_blobs C D same_key same_items [] (f ∷ fs) all = absurd all
+clone_blobs C D same_key same_items (e ∷ es) [] all = absurd all
+clone_blobs C D same_key same_items (e ∷ es) (f ∷ fs) all =
+    ap (λ (m : Blobs). with_blob m f.0 (Some f.1.items)) (clone_blobs C D same_key same_items es fs all.1)
+    ∙ ap (λ (n : Name). with_blob (blobs_of es) n (Some f.1.items)) (same_key e.0 f.0 all.0.0)
+    ∙ ap (λ (l : List ℕ). with_blob (blobs_of es) e.0 (Some l)) (same_items e.1 f.1 all.0.1)

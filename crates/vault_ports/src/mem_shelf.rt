@@ -102,6 +102,18 @@ impl MemShelf {
         in_order(alloc, names)
     }
 
+    /// A shelf with the same blobs, and no gets.
+    pub fn copy(&self) -> Result<Self, Memory>
+        ensures blobs { IfOk result (λ s. s.blobs ≡ self.now.blobs) }
+        ensures gets { IfOk result (λ s. s.gets ≡ 0) }
+    {
+        Ok(MemShelf {
+            floors: self.floors.copy(),
+            tree: self.tree.clone()?,
+            gets: 0,
+        })
+    }
+
     /// How many gets of a payload there were.
     pub fn payload_gets(&self) -> u64
         ensures { result ≡ self.now.gets }

@@ -7,7 +7,7 @@ use Rattle.vault_types.specs.Shelf.{Blobs, with_blob}
 use Rattle.vault_traits.specs.Crash.{Step, Wrote, Settled, History, IsImage}
 use Rattle.vault_ports.specs.declared.entries.Entry.{Entry}
 use Rattle.vault_ports.specs.declared.entries.Entry.TheVariants.{Put, Floor, Remove, Settle}
-use Rattle.vault_ports.specs.Record.{Write, reading, history_from, history_then, settled, writes_since, carried_out, image_of, entry_step, steps_after, entry_write, applied, replayed, IsWrite, writes_of, last_write, AreSettled}
+use Rattle.vault_ports.specs.Record.{Write, reading, history_from, history_then, settled, writes_since, carried_out, image_of, entry_step, steps_after, applied, replayed, IsWrite, writes_of, last_write, AreSettled}
 
 -- ---- an image by its bits is an image
 

@@ -1,18 +1,15 @@
 -- The map of the floors in place.
-use Rattle.std.proofs.Common.{◌≡◌, ◌≢◌, ◌⊎◌, inl, inr, ℕ, zero, suc, ◌+◌, ◌≤◌, ◌<◌, List, [], ◌∷◌, ◌++◌, length, Bool, true, false, cond, ◌||◌, Option, Some, None, refl, sym, ◌∙◌, ap, subst, arith, get_or, drop}
+use Rattle.std.proofs.Common.{◌≡◌, ◌≢◌, ℕ, zero, suc, ◌+◌, ◌≤◌, ◌<◌, List, [], ◌∷◌, ◌++◌, length, Bool, true, false, cond, ◌||◌, Option, Some, None, refl, sym, ◌∙◌, ap, arith, get_or, drop}
 use Rattle.std.specs.Prelude.{is_some, replicate}
 use Rattle.std.proofs.Math.ListN.{set}
 use Rattle.std.proofs.lemmas.List.Folds.{list_any-append}
 use Rattle.std.proofs.lemmas.List.{drop_all, append-nil}
-use Rattle.std.specs.List.{list_any}
 use Rattle.std.specs.Set.{is_member}
 use Rattle.std.specs.Ordering.{eq_by_cmp}
-use Rattle.std.specs.Cmp.{eq_by_cmp_equiv}
 use Rattle.std.specs.FinMap.{get, get-empty, contains_key, empty}
 use Rattle.vault_types.specs.declared.Name.{Name}
-use Rattle.vault_types.specs.declared.Kind.TheVariants.{Floor}
 use Rattle.vault_types.specs.Shelf.{Blobs, name_cmp, with_blob, floor_name}
-use Rattle.vault_traits.proofs.Maps.{names_total, get-with_blob, get_other, get_is, with_blob_comm, with_blob_twice, with_blob_absent, same_blobs}
+use Rattle.vault_traits.proofs.Maps.{get-with_blob, get_other, get_is, with_blob_comm, with_blob_twice, with_blob_absent}
 use Rattle.vault_ports.specs.Mem.{floors_from}
 
 pub floors_apart : (i j : ℕ) → i ≢ j → floor_name i ≢ floor_name j

@@ -1,6 +1,5 @@
 -- One map laid over another.
-use Rattle.std.proofs.Common.{◌≡◌, ◌≢◌, ◌⊎◌, inl, inr, ℕ, List, [], ◌∷◌, ◌++◌, Bool, true, false, cond, ◌||◌, Option, Some, None, Vec, refl, sym, ◌∙◌, ap, subst, map}
-use Rattle.std.specs.Prelude.{is_some}
+use Rattle.std.proofs.Common.{◌≡◌, ◌≢◌, ◌⊎◌, inl, inr, ℕ, List, [], ◌∷◌, ◌++◌, Bool, true, false, cond, Option, Some, None, Vec, refl, sym, ◌∙◌, ap, map}
 use Rattle.std.specs.declared.alloc.Global.{Global}
 use Rattle.std.specs.Option.{option_map, option_or}
 use Rattle.std.specs.Map.{lookup}
@@ -8,7 +7,7 @@ use Rattle.std.specs.List.{AllZip}
 use Rattle.std.specs.BTreeMap.{is_at}
 use Rattle.std.specs.Ordering.{eq_by_cmp}
 use Rattle.std.specs.Cmp.{eq_by_cmp_equiv}
-use Rattle.std.specs.FinMap.{get, get-empty, get-entries, get-from_entries, find, from_entries, entries, contains_key, empty}
+use Rattle.std.specs.FinMap.{get, get-empty, get-entries, get-from_entries, find, entries, empty}
 use Rattle.vault_types.specs.declared.Name.{Name}
 use Rattle.vault_types.specs.Shelf.{Blobs, name_cmp, with_blob, floor_name}
 use Rattle.vault_traits.specs.Shelf.{IsWritten, MayBeWritten}

@@ -5,7 +5,7 @@ use Rattle.std.specs.declared.string.String.{String}
 use Rattle.std.specs.String.{string_bytes}
 use Rattle.std.specs.Map.{lookup}
 use Rattle.std.specs.Str.{bytes_eq}
-use Rattle.vault_ports.specs.Streams.{Giving, FaultyGiving, Taking, FaultyTaking}
+use Rattle.vault_ports.specs.Streams.{FaultyGiving, FaultyTaking}
 
 -- names and their bytes
 abbrev pub Named : Type 0

@@ -1,5 +1,5 @@
 -- What a shelf that tells its crashes keeps of its calls, and what it leaves.
-use Rattle.std.specs.Prelude.{◌≡◌, ◌≤◌, ◌<◌, ◌%◌, ◌/◌, ◌==◌, ◌&&◌, nat_le, nat_lt, ℕ, List, [], ◌∷◌, ◌++◌, length, Bool, cond, Option, None, Some, refl}
+use Rattle.std.specs.Prelude.{◌≡◌, ◌%◌, ◌/◌, ◌==◌, ◌&&◌, nat_le, nat_lt, ℕ, List, [], ◌∷◌, ◌++◌, length, Bool, cond, Option, None, Some, refl}
 use mathlib.Core.Logic.{inl, inr}
 use Rattle.std.proofs.Common.{ap, subst}
 use Rattle.std.specs.Coded.{Coded, code_by, coded×, coded_ℕ, coded_list, coded_option}

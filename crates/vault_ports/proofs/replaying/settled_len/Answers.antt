@@ -1,7 +1,5 @@
-use Rattle.std.proofs.Common.{◌≡◌, ◌≤◌, ◌<◌, ◌+◌, ℕ, List, take, get_or, sym, ap, subst, arith, below_more}
-use Rattle.vault_ports.specs.declared.entries.Entry.{Entry}
-use Rattle.vault_ports.specs.declared.entries.Entry.TheVariants.{Settle}
-use Rattle.vault_ports.specs.Record.{IsWrite, AreSettled}
+use Rattle.std.proofs.Common.{ℕ, take, sym, subst, arith}
+use Rattle.vault_ports.specs.Record.{AreSettled}
 use Rattle.vault_ports.proofs.Chosen.{settled_here, writes_more}
 use Rattle.vault_ports.proofs.replaying.settled_len.Goals as goal
 use Rattle.vault_ports.proofs.replaying.settled_len.Goals.{in-Settle, in_default}

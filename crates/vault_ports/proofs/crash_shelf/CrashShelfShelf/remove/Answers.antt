@@ -1,11 +1,9 @@
-use Rattle.std.proofs.Common.{◌≡◌, ◌∙◌, Some, None, refl, ap, arith, vec_len}
+use Rattle.std.proofs.Common.{◌∙◌, None, refl, ap, arith, vec_len}
 use Rattle.std.specs.Prelude.{vec_capacity}
-use Rattle.vault_types.specs.Shelf.{floor_name}
 use Rattle.vault_traits.proofs.Moments.{may_of}
-use Rattle.vault_ports.specs.declared.entries.Entry.{Entry}
-use Rattle.vault_ports.specs.declared.entries.Entry.TheVariants.{Floor, Remove, Settle}
+use Rattle.vault_ports.specs.declared.entries.Entry.TheVariants.{Remove}
 use Rattle.vault_ports.specs.Record.{Record, entry_write}
-use Rattle.vault_ports.proofs.Recorded.{fits, still_read, is_recorded, settle_read, reads_same, is_settled}
+use Rattle.vault_ports.proofs.Recorded.{fits, still_read, is_recorded}
 use Rattle.vault_ports.proofs.crash_shelf.CrashShelfShelf.remove.Goals as goal
 
 pub keep_entry-requires : goal.keep_entry-requires

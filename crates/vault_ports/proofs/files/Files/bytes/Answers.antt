@@ -1,4 +1,4 @@
-use Rattle.std.proofs.Common.{◌≡◌, ◌∙◌, ℕ, Some, List, ap}
+use Rattle.std.proofs.Common.{◌∙◌, ℕ, Some, List, ap}
 use Rattle.vault_ports.proofs.Named.{found_bytes}
 use Rattle.vault_ports.proofs.files.Files.bytes.Goals as goal
 

@@ -1,4 +1,3 @@
-use Rattle.std.proofs.Common.{◌≡◌}
 use Rattle.vault_ports.proofs.Named.{SearchedTo}
 use Rattle.vault_ports.proofs.files.Files.index_of.Given as goal
 

@@ -1,8 +1,4 @@
-use Rattle.std.proofs.Common.{◌≡◌, ◌∙◌, ◌<◌, ℕ, length, sym, ap, arith, Option, List}
-use Rattle.std.specs.FinMap.{get}
-use Rattle.vault_types.specs.declared.Name.{Name}
-use Rattle.vault_types.specs.Shelf.{Blobs}
-use Rattle.vault_ports.specs.Mem.{floors_from}
+use Rattle.std.proofs.Common.{◌∙◌, sym, arith}
 use Rattle.vault_ports.proofs.FloorLemmas.{in_slot}
 use Rattle.vault_ports.proofs.floors.Floors.blob.Goals as goal
 

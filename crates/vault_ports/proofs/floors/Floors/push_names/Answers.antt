@@ -1,4 +1,4 @@
-use Rattle.std.proofs.Common.{arith, ap}
+use Rattle.std.proofs.Common.{arith}
 use Rattle.vault_ports.proofs.FloorLemmas.{joined_names}
 use Rattle.vault_ports.proofs.floors.Floors.push_names.Goals as goal
 

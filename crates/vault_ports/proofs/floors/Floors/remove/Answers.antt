@@ -1,4 +1,4 @@
-use Rattle.std.proofs.Common.{◌≡◌, ◌∙◌, ◌<◌, ◌+◌, length, None, ap, arith, sym, ℕ}
+use Rattle.std.proofs.Common.{◌∙◌, ◌<◌, ◌+◌, length, None, ap, arith, sym}
 use Rattle.vault_types.specs.declared.Name.{Name}
 use Rattle.vault_types.specs.Shelf.{Blobs, with_blob, floor_name}
 use Rattle.vault_traits.proofs.Maps.{with_blob_absent}

@@ -1,6 +1,5 @@
-use Rattle.std.proofs.Common.{◌≡◌, ap, arith, rules}
+use Rattle.std.proofs.Common.{ap, arith}
 use Rattle.vault_types.specs.declared.Name.{Name}
-use Rattle.vault_types.specs.declared.Kind.TheVariants.{Floor}
 use Rattle.vault_ports.proofs.FloorLemmas.{no_slot}
 use Rattle.vault_ports.proofs.floors.Floors.slot_of.Goals as goal
 

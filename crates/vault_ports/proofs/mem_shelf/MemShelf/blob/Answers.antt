@@ -1,4 +1,4 @@
-use Rattle.std.proofs.Common.{◌≡◌, ◌∙◌, ap, sym, Some, None, List, ℕ}
+use Rattle.std.proofs.Common.{◌∙◌, ap, Some, None, List, ℕ}
 use Rattle.vault_ports.specs.Mem.{Shown, blobs_of}
 use Rattle.vault_ports.proofs.Derived.{found_is}
 use Rattle.vault_ports.proofs.Overlaid.{over_found, under_found}

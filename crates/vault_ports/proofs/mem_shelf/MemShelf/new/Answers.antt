@@ -1,7 +1,3 @@
-use Rattle.std.proofs.Common.{◌∙◌, ap, sym, subst}
-use Rattle.std.specs.FinMap.{get-empty, empty}
-use Rattle.vault_types.specs.Shelf.{Blobs, name_cmp}
-use Rattle.vault_ports.specs.Mem.{HasOnlyFloors}
 use Rattle.vault_ports.proofs.Overlaid.{nothing, only_floors_none}
 use Rattle.vault_ports.proofs.mem_shelf.MemShelf.new.Goals as goal
 

@@ -1,4 +1,4 @@
-use Rattle.std.proofs.Common.{◌≡◌, ◌∙◌, ◌++◌, ◌∷◌, Some, ap, sym, rules, [], List, Vec, ℕ}
+use Rattle.std.proofs.Common.{◌≡◌, ◌∙◌, ◌++◌, ◌∷◌, Some, ap, sym, rules, []}
 use Rattle.vault_ports.specs.Mem.{blobs_of}
 use Rattle.vault_ports.proofs.Derived.{changed}
 use Rattle.vault_ports.proofs.Overlaid.{Entries, only_floors_none, of_tree, over_all, over_nothing, over_next}

@@ -1,4 +1,4 @@
-use Rattle.std.proofs.Common.{◌≡◌, ◌++◌, vec_len}
+use Rattle.std.proofs.Common.{◌≡◌, vec_len}
 use Rattle.vault_ports.specs.Mem.{blobs_of}
 use Rattle.vault_ports.proofs.Overlaid.{over_all}
 use Rattle.vault_ports.proofs.mem_shelf.MemShelf.with.Given as goal

@@ -1,6 +1,6 @@
 use Rattle.std.proofs.Common.{◌≡◌, ◌∙◌, List, ℕ, Some, ap, rules}
 use Rattle.vault_types.specs.Shelf.{with_blob}
-use Rattle.vault_ports.specs.Mem.{Shown, overlaid, blobs_of}
+use Rattle.vault_ports.specs.Mem.{Shown}
 use Rattle.vault_ports.proofs.Derived.{changed}
 use Rattle.vault_ports.proofs.Overlaid.{put_is, told_written, told_may}
 use Rattle.vault_ports.proofs.mem_shelf.MemShelfShelf.put.Goals as goal

@@ -1,5 +1,5 @@
-use Rattle.std.proofs.Common.{◌≡◌, Some, ap, subst, sym}
-use Rattle.vault_types.specs.Shelf.{Blobs, floor_name}
+use Rattle.std.proofs.Common.{Some, ap, subst, sym}
+use Rattle.vault_types.specs.Shelf.{floor_name}
 use Rattle.vault_ports.specs.Mem.{Shown, HasOnlyFloors}
 use Rattle.vault_ports.proofs.Overlaid.{floor_is, only_floors_put, told_written, told_may}
 use Rattle.vault_ports.proofs.mem_shelf.MemShelfShelf.put_floor.Goals as goal

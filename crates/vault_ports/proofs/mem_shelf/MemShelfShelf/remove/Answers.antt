@@ -1,4 +1,4 @@
-use Rattle.std.proofs.Common.{◌≡◌, None, ap, subst, sym}
+use Rattle.std.proofs.Common.{None, ap, subst, sym}
 use Rattle.vault_ports.specs.Mem.{Shown, HasOnlyFloors}
 use Rattle.vault_ports.proofs.Derived.{changed}
 use Rattle.vault_ports.proofs.Overlaid.{removed_is, only_floors_removed, told_written, told_may}

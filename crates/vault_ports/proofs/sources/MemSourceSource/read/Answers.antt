@@ -1,4 +1,4 @@
-use Rattle.std.proofs.Common.{rules, ◌≡◌, ◌≤◌, Some, ℕ, ◌+◌, ◌-◌, length, List, ◌++◌, take, drop, sym, ◌∙◌, ap, arith}
+use Rattle.std.proofs.Common.{◌≡◌, ◌≤◌, Some, ℕ, ◌+◌, ◌-◌, length, List, take, drop, sym, ◌∙◌, ap, arith}
 use Rattle.vault_ports.specs.Streams.{Giving}
 use Rattle.vault_ports.proofs.Pieces.{next_piece}
 use Rattle.vault_ports.proofs.sources.MemSourceSource.read.Goals as goal

@@ -91,7 +91,9 @@ impl Places for FaultPlaces {
         }
     }
 
-    fn close_source(&mut self, reader: FaultSource) {
+    fn close_source(&mut self, reader: FaultSource)
+        ensures { self.new ≡ record self.old { places = record self.old.places { read_faults = added self.old.places.read_faults reader.faults } } }
+    {
         self.inner.add_read_faults(reader.faults());
     }
 

@@ -55,21 +55,21 @@ impl MemPlaces {
     }
 
     // Counts the faults of a reader that was given back.
-    pub fn add_read_faults(&mut self, faults: u64)
+    pub(crate) fn add_read_faults(&mut self, faults: u64)
         ensures { self.new ≡ record self.old { read_faults = added self.old.read_faults faults } }
     {
         self.read_faults = self.read_faults.saturating_add(faults);
     }
 
     // Counts the faults of a writer that was given back.
-    pub fn add_write_faults(&mut self, faults: u64)
+    pub(crate) fn add_write_faults(&mut self, faults: u64)
         ensures { self.new ≡ record self.old { write_faults = added self.old.write_faults faults } }
     {
         self.write_faults = self.write_faults.saturating_add(faults);
     }
 
     // Gives a name that is there these bytes.
-    pub fn give(&mut self, name: &str, bytes: Vec<u8>)
+    pub(crate) fn give(&mut self, name: &str, bytes: Vec<u8>)
         requires { IsThere (Some (file_at self.old.files)) name.now }
         ensures files { IsFiled self.old.files self.new.files name.now bytes.items }
         ensures others { self.new ≡ record self.old { files = self.new.files } }
@@ -99,7 +99,9 @@ impl Places for MemPlaces {
         Ok(MemSource::new(bytes.to_vec(alloc)?, usize::MAX))
     }
 
-    fn close_source(&mut self, reader: MemSource) {
+    fn close_source(&mut self, reader: MemSource)
+        ensures { self.new ≡ self.old }
+    {
         self.add_read_faults(reader.faults());
     }
 

@@ -50,7 +50,7 @@ impl MemSource {
 
 impl MemSource {
     // The same bytes, at most so many at a read.
-    pub fn with_piece(self, piece: usize) -> Self
+    pub(crate) fn with_piece(self, piece: usize) -> Self
         requires { 0 < piece }
         ensures { result ≡ record { left = self.left; piece = piece } }
     {

@@ -202,7 +202,7 @@ filled-put f g first gone cs hs chunk how new short absent put h =
     let done : carried_how (is_some (taken_by f (fp chunk))) how ≡ Write = ap (λ o. carried_how (is_some o) how) absent ∙ new-first how new in
     let is : carried (cs ++ named_chunk chunk ∷ []) (hs ++ how ∷ []) ≡ carried cs hs ++ Write ∷ [] = carried-as f first gone cs hs (named_chunk chunk) how Write h.count h.keeps done in
     let w : IsWritten f g first gone (given_for f (length chunk)) h.full (writes cs (carried cs hs)) (named_chunk chunk) =
-        roomed-written b f g first gone cs (carried cs hs) chunk h.full refl h.gone_are h.packed h.keeps put.held in
+    roomed-written b f g first gone cs (carried cs hs) chunk h.full refl h.gone_are h.packed h.keeps put.held in
     let capacity : g.capacity ≡ f.capacity = put.capacity ∙ roomed-capacity b f in
     let R : ℕ → Type 0 = λ n. ArePacked n (writes cs (carried cs hs) ++ named_chunk chunk ∷ []) w.full_now (map named_chunk g.held) in
     let S : List NamedChunk → Type 0 = λ ws. ArePacked g.capacity ws w.full_now (map named_chunk g.held) in
@@ -231,11 +231,11 @@ filled-by f first gone cs hs h =
     let all : List Container = gone ++ opened f.next f.held in
     let packed : pieces size_of f.capacity (writes cs (carried cs hs)) ≡ h.full ++ only (map named_chunk f.held) = packed-end f.capacity (writes cs (carried cs hs)) h.full (map named_chunk f.held) h.packed in
     let are : all ≡ new_containers first (pieces size_of f.capacity (writes cs (carried cs hs))) =
-        ap (λ n. gone ++ opened n f.held) (let n : f.next ≡ first + length h.full = omega arith in n)
-        ∙ ap (λ xs. xs ++ opened (first + length h.full) f.held) h.gone_are
-        ∙ ap (λ xs. new_containers first h.full ++ xs) (opened-as (first + length h.full) f.held)
-        ∙ sym (containers-append first h.full (only (map named_chunk f.held)))
-        ∙ ap (new_containers first) (sym packed) in
+    ap (λ n. gone ++ opened n f.held) (let n : f.next ≡ first + length h.full = omega arith in n)
+    ∙ ap (λ xs. xs ++ opened (first + length h.full) f.held) h.gone_are
+    ∙ ap (λ xs. new_containers first h.full ++ xs) (opened-as (first + length h.full) f.held)
+    ∙ sym (containers-append first h.full (only (map named_chunk f.held)))
+    ∙ ap (new_containers first) (sym packed) in
     let len : length all ≡ length gone + length (opened f.next f.held) = length-append gone (opened f.next f.held) in
     let next_now : (closed f).next ≡ f.next + length (opened f.next f.held) = closed-next f.held f in
     let count : (closed f).containers ≡ saturated (length all) = closed-count f.held f (length gone) h.keeps.containers ∙ ap saturated (sym len) in

@@ -6,3 +6,4 @@ pub mod PlaceLemmas
 pub mod StepLemmas
 pub mod KeepLemmas
 pub mod FillerLemmas
+pub mod TurnLemmas

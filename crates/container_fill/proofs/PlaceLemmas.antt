@@ -71,13 +71,16 @@ place-put gone id held c q none =
   where
     before : place_of (gone ++ opened id held) q ≡ option_or (place_of gone q) (when (has_chunk q held) id)
     before = place-append gone (opened id held) q ∙ ap (option_or (place_of gone q)) (place-opened id held q)
+
     nowhere : (p : Option ℕ) (b : Bool) → option_or p (when b id) ≡ None → option_or p (when (b || true) id) ≡ Some id
     nowhere (Some n) b e = cc
     nowhere None true e = refl
     nowhere None false e = refl
+
     same : (b : Bool) → (b || false) ≡ b
     same true = refl
     same false = refl
+
     step : (b : Bool) → same_fp (fp c) q ≡ b → option_or (place_of gone q) (when (has_chunk q held || (b || false)) id) ≡ cond b (Some id) (place_of (gone ++ opened id held) q)
     step true e =
         let at : place_of (gone ++ opened id held) q ≡ None = (let P : Fp → Type 0 = λ k. place_of (gone ++ opened id held) k ≡ None in subst P (same_fps (fp c) q e) none) in

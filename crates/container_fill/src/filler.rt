@@ -1,4 +1,4 @@
-ghost use Rattle.std.specs.Prelude.{◌≡◌, ◌↔◌, ◌≤◌, ◌<◌, ◌+◌, ◌^◌, List, ℕ, [], ◌∷◌, ◌++◌, length, option_to_list, OnOk, IfOk, IfSome, IsSome, None, Some, nat_lt, unwrap_or};
+ghost use Rattle.std.specs.Prelude.{◌≡◌, ◌↔◌, ◌≤◌, ◌<◌, ◌+◌, ◌^◌, List, ℕ, [], ◌∷◌, ◌++◌, length, option_to_list, OnOk, IfOk, IfSome, IsSome, None, Some, nat_lt, unwrap_or, is_some};
 ghost use Rattle.vault_types.specs.declared.How.{How};
 ghost use Rattle.vault_types.specs.declared.How.TheVariants as how;
 ghost use Rattle.vault_types.specs.Names.{fp, NamedChunk, named_chunk};
@@ -94,8 +94,8 @@ impl Filler {
             self.add_row(Row { fp, id, len })?;
             return Ok(None);
         }
-        if let Some(id) = self.place(&fp) {
-            self.add_row(Row { fp, id, len })?;
+        if let Some(taker) = self.place(&fp) {
+            self.add_row(Row { fp, id: taker, len })?;
             return Ok(None);
         }
         let given = self.make_room(len);
@@ -154,6 +154,13 @@ impl Filler {
             containers,
             written,
         })
+    }
+
+    /// Whether this filler has written the fingerprint.
+    pub fn has_written(&self, fp: &Fp) -> bool
+        ensures { result ≡ is_some (taken_by self.now fp.now) }
+    {
+        self.place(fp).is_some()
     }
 
     // The container that took the write of a fingerprint.

@@ -1,9 +1,10 @@
+ghost use Rattle.std.specs.Prelude.{◌≤◌};
+
 use super::*;
 use container_store::Sealed;
 use fingerprint_stage::name;
 use rewrite_stage::Decided;
 use std::alloc::Global;
-use std::process::Abort;
 use std::test::Fail;
 use vault_types::{How, Memory};
 
@@ -55,6 +56,7 @@ fn rows_name_the_container_that_has_the_chunk(rt: HostRuntime) -> Result<(), Fai
     let _ = push(rt.alloc(), &mut filler, 2, 2, How::Write)?;
     let _ = push(rt.alloc(), &mut filler, 1, 2, How::Write)?;
     let fp = name(vec![in rt.alloc(); 1u8; 2]?).fp();
+    assert!(rt; filler.has_written(&fp));
     filler.row(&fp, 2, None)?;
     filler.row(&fp, 2, Some(3))?;
     let filled = filler.finish()?;

@@ -17,12 +17,12 @@ returns-in-Old-clause-filled c first gone chunks hows h =
 
 pub returns-in-Some : goal.returns-in-Some
 returns-in-Some c =
-    let now : c.add_row-in-Some.new.self ≡ with_row c.args.self.now (record { fp = c.fp-fp.result; id = c.in-Some.id; len = c.len-len.result }) = c.in_ok-add_row-2.ensures in
+    let now : c.add_row-in-Some.new.self ≡ with_row c.args.self.now (record { fp = c.fp-fp.result; id = c.in-Some.taker; len = c.len-len.result }) = c.in_ok-add_row-2.ensures in
     let next : c.add_row-in-Some.new.self.next ≡ c.args.self.now.next = ap (λ f. f.next) now in
     record {
       filled = λ first gone chunks hows h.
           gone-none _ first gone _ _
-          (row-own c.args.self.now c.add_row-in-Some.new.self c.fp-fp.result c.in-Some.id c.len-len.result c.args.decided.how
+          (row-own c.args.self.now c.add_row-in-Some.new.self c.fp-fp.result c.in-Some.taker c.len-len.result c.args.decided.how
           (is_new c.args.decided.how c.in_default.not-Old) (sym c.place.ensures ∙ c.in-Some.is) now
           (named_chunk c.args.decided.chunk) (sym c.fp-fp.ensures) (sym c.len-len.ensures.len) first gone chunks hows h);
       id = tt;

@@ -29,7 +29,7 @@ invariant_of-self-2 c =
     let rows : length c.push.new.self.items ≡ length c.self.inside.rows.items + 1 = ap length c.in_ok-push.ensures.items ∙ length-append c.self.inside.rows.items (_ ∷ []) in
     let high : c.self.inside.next ≤ 2 ^ 63 + length c.self.inside.rows.items = c.self.invariant.high in
     let updates : (q : Fp) → lookup (same_fp q) c.insert.new.self.entries ≡ cond (same_fp (fp c.args.chunk.now) q) (Some c.self.inside.next) (lookup (same_fp q) c.self.inside.taken.entries) =
-        λ q. c.in_ok-insert.ensures.updates.0 q ∙ ap (λ k. cond (same_fp k q) (Some c.self.inside.next) (lookup (same_fp q) c.self.inside.taken.entries)) c.fp.ensures in
+    λ q. c.in_ok-insert.ensures.updates.0 q ∙ ap (λ k. cond (same_fp k q) (Some c.self.inside.next) (lookup (same_fp q) c.self.inside.taken.entries)) c.fp.ensures in
     record {
       some = c.self.invariant.some;
       most = c.self.invariant.most;

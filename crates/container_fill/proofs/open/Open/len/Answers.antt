@@ -6,7 +6,7 @@ use Rattle.container_fill.proofs.open.Open.len.Goals as goal
 pub returns-clause-is : goal.returns-clause-is
 returns-clause-is c =
     let inside : length c.self.inside.payload.items ≡ bytes_in c.args.self.now =
-        payload-len c.self.inside.rows.items c.self.inside.payload.items c.self.invariant ∙ ap bytes_in c.self.view_is in
+    payload-len c.self.inside.rows.items c.self.inside.payload.items c.self.invariant ∙ ap bytes_in c.self.view_is in
     let whole : c.len.result ≡ length c.self.inside.payload.items = search rules in
     whole ∙ inside
 

@@ -1,0 +1,6 @@
+pub mod EndLemmas
+pub mod StreamLemmas
+pub mod ValueLemmas
+pub mod PeakLemmas
+pub mod ScanLemmas
+pub mod CutterLemmas

@@ -1,0 +1,6 @@
+/// What a step of feeding came to: a chunk is whole with so many bytes of the piece, or the whole piece is held.
+#[derive(Drop)]
+pub(crate) enum Step {
+    Whole { chunk: Vec<u8>, taken: usize },
+    Held,
+}

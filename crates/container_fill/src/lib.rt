@@ -1,0 +1,9 @@
+//! Filling: the chunks that a backup writes go into containers, and each chunk has a row that says which one has it.
+#![tactic(auto)]
+
+mod filler;
+mod open;
+#[cfg(test)]
+mod tests;
+
+pub use filler::{Filled, Filler};

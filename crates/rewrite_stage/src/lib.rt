@@ -1,0 +1,12 @@
+//! Which chunks of a backup are written, and which are referred to where they are.
+#![tactic(auto)]
+
+use fingerprint_stage::Chunk;
+use vault_types::How;
+
+/// A chunk of a backup, and how it is stored.
+#[derive(Drop)]
+pub struct Decided {
+    pub chunk: Chunk,
+    pub how: How,
+}

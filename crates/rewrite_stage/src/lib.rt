@@ -1,6 +1,9 @@
 //! Which chunks of a backup are written, and which are referred to where they are.
 #![tactic(auto)]
 
+mod decider;
+
+pub use decider::Decider;
 use fingerprint_stage::Chunk;
 use vault_types::How;
 

@@ -1,0 +1,10 @@
+//! What the store reads and prints as text: the words of a command, the lines of a script, and the report lines.
+//!
+//! A command is a word and settings, each `--name value` or `--name=value`. A script is a list of lines, each a backup, a
+//! restore or a deletion. The grammars are those of `vault_types` (`Words`), and so are the printed lines (`Texts`).
+#![tactic(auto)]
+
+mod buffer;
+mod texts;
+
+pub use texts::{answer_text, fault_text};

@@ -5,6 +5,9 @@
 #![tactic(auto)]
 
 mod buffer;
+mod kinds;
+mod settings;
 mod texts;
+mod values;
 
 pub use texts::{answer_text, fault_text};

@@ -1,14 +1,18 @@
 -- What the tables of settings, and the settings that were read, stand for.
-use Rattle.std.specs.Prelude.{ℕ, List, map}
-use Rattle.vault_types.specs.Words.{Allowed, Number, Word, Kinds, Settings}
+use Rattle.std.specs.Prelude.{◌≡◌, ℕ, false, codes, ◌<◌, ◌≤◌, ◌^◌, List, map, length, drop, Option, Some, None}
+use Rattle.std.specs.Str.{bytes_eq}
+use Rattle.vault_types.specs.Words.{Allowed, Number, Word, Kinds, Settings, number_in, settings_of, with_setting}
 use Rattle.script_words.specs.declared.settings.Setting.{Setting}
 use Rattle.script_words.specs.declared.kinds.Range.{Range}
 use Rattle.script_words.specs.declared.kinds.Range.TheVariants as range
 use Rattle.script_words.specs.declared.kinds.Kind.{Kind}
 
--- the settings as pairs of a name and a value
+-- a setting as a pair of a name and a value
+abbrev pub pair_of : Setting → List ℕ × List ℕ
+pair_of setting = (setting.name.now, setting.value.now)
+
 abbrev pub pairs : List Setting → Settings
-pairs settings = map (λ s. (s.name.now, s.value.now)) settings
+pairs settings = map pair_of settings
 
 abbrev pub allowed_of : Range → Allowed
 allowed_of (range.Number low high) = Number low high
@@ -17,3 +21,14 @@ allowed_of (range.Word texts) = Word (map (λ t. t.now) texts.now)
 -- the rows of a table of settings
 abbrev pub kinds_of : List Kind → Kinds
 kinds_of kinds = map (λ k. (k.name.now, allowed_of k.range)) kinds
+
+-- the numbers among the values fit: the seed 64 bits, the set 8, and each other 32
+pub record NumbersFit (settings : Settings) : Type 0 where
+  pub each : (name : List ℕ) → bytes_eq name (codes "seed") ≡ false → number_in settings name 0 < 2 ^ 32
+  pub set : number_in settings (codes "set") 0 < 2 ^ 8
+  pub seed : number_in settings (codes "seed") 0 < 2 ^ 64
+
+-- what the first setting of some words is, and how many words it is, if it is one
+abbrev pub FirstSetting : List (List ℕ) → Option ((List ℕ × List ℕ) × ℕ) → Type 0
+FirstSetting words None = settings_of words ≡ None
+FirstSetting words (Some r) = (0 < r.1) × (r.1 ≤ length words) × (settings_of words ≡ with_setting (Some r.0) (settings_of (drop r.1 words)))

@@ -26,15 +26,220 @@ const SET: Kind = Kind {
     range: Range::Number { low: 0, high: 255 },
 };
 
+const SIZE: Kind = Kind {
+    name: b"size",
+    range: Range::Number {
+        low: 1,
+        high: 65_536,
+    },
+};
+
+const WINDOW: Kind = Kind {
+    name: b"window",
+    range: Range::Number {
+        low: 1,
+        high: 65_535,
+    },
+};
+
+const MAX: Kind = Kind {
+    name: b"max",
+    range: Range::Number {
+        low: 2,
+        high: 65_536,
+    },
+};
+
+const SEGMENT: Kind = Kind {
+    name: b"segment",
+    range: Range::Number {
+        low: 1,
+        high: 67_108_864,
+    },
+};
+
+const CAP: Kind = Kind {
+    name: b"cap",
+    range: Range::Number {
+        low: 1,
+        high: 4_096,
+    },
+};
+
+const THRESHOLD: Kind = Kind {
+    name: b"threshold",
+    range: Range::Number { low: 0, high: 100 },
+};
+
+const LIMIT: Kind = Kind {
+    name: b"limit",
+    range: Range::Number { low: 0, high: 100 },
+};
+
+const CONTAINER: Kind = Kind {
+    name: b"container",
+    range: Range::Number {
+        low: 1,
+        high: 4_194_304,
+    },
+};
+
+const QUEUE: Kind = Kind {
+    name: b"queue",
+    range: Range::Number {
+        low: 1,
+        high: 1_024,
+    },
+};
+
+const LANES: Kind = Kind {
+    name: b"lanes",
+    range: Range::Number { low: 1, high: 8 },
+};
+
+const WORKERS: Kind = Kind {
+    name: b"workers",
+    range: Range::Number { low: 1, high: 8 },
+};
+
+const CACHE: Kind = Kind {
+    name: b"cache",
+    range: Range::Number { low: 1, high: 64 },
+};
+
+const AREA: Kind = Kind {
+    name: b"area",
+    range: Range::Number {
+        low: 65_536,
+        high: 67_108_864,
+    },
+};
+
+const SAMPLE: Kind = Kind {
+    name: b"sample",
+    range: Range::Number {
+        low: 1,
+        high: 65_536,
+    },
+};
+
+const PREFETCH: Kind = Kind {
+    name: b"prefetch",
+    range: Range::Number { low: 1, high: 16 },
+};
+
+const VERSION: Kind = Kind {
+    name: b"version",
+    range: Range::Number {
+        low: 0,
+        high: 4_294_967_295,
+    },
+};
+
+const THROUGH: Kind = Kind {
+    name: b"through",
+    range: Range::Number {
+        low: 0,
+        high: 4_294_967_295,
+    },
+};
+
+const SEED: Kind = Kind {
+    name: b"seed",
+    range: Range::Number {
+        low: 0,
+        high: 18_446_744_073_709_551_615,
+    },
+};
+
+const VERSIONS: Kind = Kind {
+    name: b"versions",
+    range: Range::Number { low: 1, high: 64 },
+};
+
 const CHUNK: Kind = Kind {
     name: b"chunk",
     range: Range::Word(&[b"fixed", b"ae"]),
 };
 
-fn try_kinds() -> [Kind; 2]
-    ensures { kinds_of result ≡ spec.set_kind ++ (codes "chunk", spec.Word (codes "fixed" ∷ codes "ae" ∷ [])) ∷ [] }
+const REWRITE: Kind = Kind {
+    name: b"rewrite",
+    range: Range::Word(&[b"none", b"cap", b"har", b"both"]),
+};
+
+/// The settings of a backup.
+pub(crate) fn backup_kinds() -> [Kind; 15]
+    ensures { kinds_of result ≡ spec.set_kind ++ spec.job_kinds ++ spec.queue_kinds ++ spec.sample_kinds }
 {
-    [SET, CHUNK]
+    [
+        SET, CHUNK, SIZE, WINDOW, MAX, REWRITE, SEGMENT, CAP, THRESHOLD, LIMIT, CONTAINER, QUEUE,
+        LANES, SAMPLE, PREFETCH,
+    ]
+}
+
+/// The settings of a restore.
+pub(crate) fn restore_kinds() -> [Kind; 4]
+    ensures { kinds_of result ≡ spec.set_kind ++ spec.version_kind (codes "version") ++ spec.cache_kind ++ spec.area_kind }
+{
+    [SET, VERSION, CACHE, AREA]
+}
+
+/// The settings of a deletion.
+pub(crate) fn delete_kinds() -> [Kind; 2]
+    ensures { kinds_of result ≡ spec.set_kind ++ spec.version_kind (codes "through") }
+{
+    [SET, THROUGH]
+}
+
+/// The settings that name a version.
+pub(crate) fn version_kinds() -> [Kind; 2]
+    ensures { kinds_of result ≡ spec.set_kind ++ spec.version_kind (codes "version") }
+{
+    [SET, VERSION]
+}
+
+/// The settings of a batch.
+pub(crate) fn batch_kinds() -> [Kind; 3]
+    ensures { kinds_of result ≡ spec.queue_kinds ++ spec.workers_kind }
+{
+    [QUEUE, LANES, WORKERS]
+}
+
+/// The settings of a fill.
+pub(crate) fn fill_kinds() -> [Kind; 5]
+    ensures { kinds_of result ≡ (codes "seed", spec.Number 0 18446744073709551615) ∷ (codes "versions", spec.Number 1 64) ∷ spec.queue_kinds ++ spec.workers_kind }
+{
+    [SEED, VERSIONS, QUEUE, LANES, WORKERS]
+}
+
+/// The settings of a scrub.
+pub(crate) fn scrub_kinds() -> [Kind; 1]
+    ensures { kinds_of result ≡ spec.workers_kind }
+{
+    [WORKERS]
+}
+
+/// The settings of a line that backs up.
+pub(crate) fn backup_line_kinds() -> [Kind; 11]
+    ensures { kinds_of result ≡ spec.set_kind ++ spec.job_kinds }
+{
+    [
+        SET, CHUNK, SIZE, WINDOW, MAX, REWRITE, SEGMENT, CAP, THRESHOLD, LIMIT, CONTAINER,
+    ]
+}
+
+/// The settings of a line that restores.
+pub(crate) fn restore_line_kinds() -> [Kind; 2]
+    ensures { kinds_of result ≡ spec.set_kind ++ spec.cache_kind }
+{
+    [SET, CACHE]
+}
+
+/// The settings of a line that deletes.
+pub(crate) fn delete_line_kinds() -> [Kind; 1]
+    ensures { kinds_of result ≡ spec.set_kind }
+{
+    [SET]
 }
 
 /// Whether a value is one that there may be.

@@ -6,6 +6,7 @@
 
 mod buffer;
 mod kinds;
+mod reader;
 mod settings;
 mod texts;
 mod values;

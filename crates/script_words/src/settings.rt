@@ -1,9 +1,9 @@
 //! Settings: names with values.
-ghost use Rattle.std.specs.Prelude.{◌≡◌, ◌<◌, ◌^◌, ℕ, option_map};
+ghost use Rattle.std.specs.Prelude.{◌≡◌, ℕ, false, codes, option_map};
 ghost use Rattle.std.specs.List.{list_all, list_any};
 ghost use Rattle.std.specs.Str.{bytes_eq};
 ghost use Rattle.vault_types.specs.Words as spec;
-ghost use Rattle.script_words.specs.Settings.{pairs, kinds_of};
+ghost use Rattle.script_words.specs.Settings.{pairs, kinds_of, NumbersFit};
 
 use crate::kinds::{Kind, may_be};
 use crate::values::{is_value, number};
@@ -68,15 +68,65 @@ fn each_is_allowed(settings: &[Setting], kinds: &[Kind]) -> bool
     true
 }
 
-/// The number that a name has in the settings, or a default where it has none.
-pub(crate) fn number_in(settings: &[Setting], name: &[u8], default: u32) -> u32
-    ensures { spec.number_in (pairs settings.now) name.now default < 2 ^ 32 → result ≡ spec.number_in (pairs settings.now) name.now default }
+/// Whether a name has a value in the settings.
+pub(crate) fn has_value(settings: &[Setting], name: &[u8]) -> bool
+    ensures { result ≡ spec.has_value (pairs settings.now) name.now }
+{
+    value_in(settings, name).is_some()
+}
+
+/// Whether a name has this value in the settings.
+pub(crate) fn is_word(settings: &[Setting], name: &[u8], text: &[u8]) -> bool
+    ensures { result ≡ spec.is_word (pairs settings.now) name.now text.now }
 {
     match value_in(settings, name) {
-        Some(text) => match number(text) {
-            Some(n) => u32::try_from(n).unwrap_or(default),
-            None => default,
-        },
+        Some(value) => text == value,
+        None => false,
+    }
+}
+
+/// The number that a name has in the settings, if it has one.
+pub(crate) fn number_if_given(settings: &[Setting], name: &[u8]) -> Option<u32>
+    requires fit { NumbersFit (pairs settings.now) }
+    requires not_seed { bytes_eq name.now (codes "seed") ≡ false }
+    ensures { result ≡ spec.number_if_given (pairs settings.now) name.now }
+{
+    match number(value_in(settings, name)?) {
+        Some(n) => Some(n as u32),
+        None => None,
+    }
+}
+
+/// The number that a name has in the settings, or a default where it has none.
+pub(crate) fn number_in(settings: &[Setting], name: &[u8], default: u32) -> u32
+    requires fit { NumbersFit (pairs settings.now) }
+    requires not_seed { bytes_eq name.now (codes "seed") ≡ false }
+    ensures { result ≡ spec.number_in (pairs settings.now) name.now default }
+{
+    match number_if_given(settings, name) {
+        Some(n) => n,
         None => default,
+    }
+}
+
+/// The number of the dataset in the settings, 0 where none is given.
+pub(crate) fn set_in(settings: &[Setting]) -> u8
+    requires { NumbersFit (pairs settings.now) }
+    ensures { result ≡ spec.set_in (pairs settings.now) }
+{
+    number_in(settings, b"set", 0) as u8
+}
+
+/// The seed in the settings, 0 where none is given.
+pub(crate) fn seed_in(settings: &[Setting]) -> u64
+    requires { NumbersFit (pairs settings.now) }
+    ensures { result ≡ spec.number_in (pairs settings.now) (codes "seed") 0 }
+{
+    match value_in(settings, b"seed") {
+        Some(text) => match number(text) {
+            Some(n) => n,
+            None => 0,
+        },
+        None => 0,
     }
 }

@@ -1,9 +1,9 @@
 //! The settings that there are, and what their values may be.
-ghost use Rattle.std.specs.Prelude.{◌≡◌, ◌&&◌, ◌++◌, ◌∷◌, [], codes};
+ghost use Rattle.std.specs.Prelude.{◌≡◌, true, ◌&&◌, ◌++◌, ◌∷◌, [], codes};
 ghost use Rattle.std.specs.List.{list_any};
 ghost use Rattle.std.specs.Str.{bytes_eq};
 ghost use Rattle.vault_types.specs.Words as spec;
-ghost use Rattle.script_words.specs.Settings.{allowed_of, kinds_of};
+ghost use Rattle.script_words.specs.Settings.{allowed_of, kinds_of, kinds_fit};
 
 use crate::values::{is_number_in, is_one_of};
 
@@ -169,7 +169,8 @@ const REWRITE: Kind = Kind {
 
 /// The settings of a backup.
 pub(crate) fn backup_kinds() -> [Kind; 15]
-    ensures { kinds_of result ≡ spec.set_kind ++ spec.job_kinds ++ spec.queue_kinds ++ spec.sample_kinds }
+    ensures rows { kinds_of result ≡ spec.set_kind ++ spec.job_kinds ++ spec.queue_kinds ++ spec.sample_kinds }
+    ensures fit { kinds_fit (kinds_of result) ≡ true }
 {
     [
         SET, CHUNK, SIZE, WINDOW, MAX, REWRITE, SEGMENT, CAP, THRESHOLD, LIMIT, CONTAINER, QUEUE,
@@ -179,49 +180,56 @@ pub(crate) fn backup_kinds() -> [Kind; 15]
 
 /// The settings of a restore.
 pub(crate) fn restore_kinds() -> [Kind; 4]
-    ensures { kinds_of result ≡ spec.set_kind ++ spec.version_kind (codes "version") ++ spec.cache_kind ++ spec.area_kind }
+    ensures rows { kinds_of result ≡ spec.set_kind ++ spec.version_kind (codes "version") ++ spec.cache_kind ++ spec.area_kind }
+    ensures fit { kinds_fit (kinds_of result) ≡ true }
 {
     [SET, VERSION, CACHE, AREA]
 }
 
 /// The settings of a deletion.
 pub(crate) fn delete_kinds() -> [Kind; 2]
-    ensures { kinds_of result ≡ spec.set_kind ++ spec.version_kind (codes "through") }
+    ensures rows { kinds_of result ≡ spec.set_kind ++ spec.version_kind (codes "through") }
+    ensures fit { kinds_fit (kinds_of result) ≡ true }
 {
     [SET, THROUGH]
 }
 
 /// The settings that name a version.
 pub(crate) fn version_kinds() -> [Kind; 2]
-    ensures { kinds_of result ≡ spec.set_kind ++ spec.version_kind (codes "version") }
+    ensures rows { kinds_of result ≡ spec.set_kind ++ spec.version_kind (codes "version") }
+    ensures fit { kinds_fit (kinds_of result) ≡ true }
 {
     [SET, VERSION]
 }
 
 /// The settings of a batch.
 pub(crate) fn batch_kinds() -> [Kind; 3]
-    ensures { kinds_of result ≡ spec.queue_kinds ++ spec.workers_kind }
+    ensures rows { kinds_of result ≡ spec.queue_kinds ++ spec.workers_kind }
+    ensures fit { kinds_fit (kinds_of result) ≡ true }
 {
     [QUEUE, LANES, WORKERS]
 }
 
 /// The settings of a fill.
 pub(crate) fn fill_kinds() -> [Kind; 5]
-    ensures { kinds_of result ≡ (codes "seed", spec.Number 0 18446744073709551615) ∷ (codes "versions", spec.Number 1 64) ∷ spec.queue_kinds ++ spec.workers_kind }
+    ensures rows { kinds_of result ≡ (codes "seed", spec.Number 0 18446744073709551615) ∷ (codes "versions", spec.Number 1 64) ∷ spec.queue_kinds ++ spec.workers_kind }
+    ensures fit { kinds_fit (kinds_of result) ≡ true }
 {
     [SEED, VERSIONS, QUEUE, LANES, WORKERS]
 }
 
 /// The settings of a scrub.
 pub(crate) fn scrub_kinds() -> [Kind; 1]
-    ensures { kinds_of result ≡ spec.workers_kind }
+    ensures rows { kinds_of result ≡ spec.workers_kind }
+    ensures fit { kinds_fit (kinds_of result) ≡ true }
 {
     [WORKERS]
 }
 
 /// The settings of a line that backs up.
 pub(crate) fn backup_line_kinds() -> [Kind; 11]
-    ensures { kinds_of result ≡ spec.set_kind ++ spec.job_kinds }
+    ensures rows { kinds_of result ≡ spec.set_kind ++ spec.job_kinds }
+    ensures fit { kinds_fit (kinds_of result) ≡ true }
 {
     [
         SET, CHUNK, SIZE, WINDOW, MAX, REWRITE, SEGMENT, CAP, THRESHOLD, LIMIT, CONTAINER,
@@ -230,14 +238,16 @@ pub(crate) fn backup_line_kinds() -> [Kind; 11]
 
 /// The settings of a line that restores.
 pub(crate) fn restore_line_kinds() -> [Kind; 2]
-    ensures { kinds_of result ≡ spec.set_kind ++ spec.cache_kind }
+    ensures rows { kinds_of result ≡ spec.set_kind ++ spec.cache_kind }
+    ensures fit { kinds_fit (kinds_of result) ≡ true }
 {
     [SET, CACHE]
 }
 
 /// The settings of a line that deletes.
 pub(crate) fn delete_line_kinds() -> [Kind; 1]
-    ensures { kinds_of result ≡ spec.set_kind }
+    ensures rows { kinds_of result ≡ spec.set_kind }
+    ensures fit { kinds_fit (kinds_of result) ≡ true }
 {
     [SET]
 }

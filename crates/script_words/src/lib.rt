@@ -5,10 +5,13 @@
 #![tactic(auto)]
 
 mod buffer;
+mod commands;
+mod config;
 mod kinds;
 mod reader;
 mod settings;
 mod texts;
 mod values;
 
+pub use commands::{read_replica, read_words};
 pub use texts::{answer_text, fault_text};

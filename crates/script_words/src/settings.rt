@@ -1,9 +1,9 @@
 //! Settings: names with values.
-ghost use Rattle.std.specs.Prelude.{◌≡◌, ℕ, false, codes, option_map};
+ghost use Rattle.std.specs.Prelude.{◌≡◌, ℕ, true, false, codes, option_map};
 ghost use Rattle.std.specs.List.{list_all, list_any};
 ghost use Rattle.std.specs.Str.{bytes_eq};
 ghost use Rattle.vault_types.specs.Words as spec;
-ghost use Rattle.script_words.specs.Settings.{pairs, kinds_of, NumbersFit};
+ghost use Rattle.script_words.specs.Settings.{pairs, kinds_of, kinds_fit, NumbersFit};
 
 use crate::kinds::{Kind, may_be};
 use crate::values::{is_value, number};
@@ -52,7 +52,9 @@ pub(crate) fn names_differ(settings: &[Setting]) -> bool
 
 /// Whether each name comes once, is in the table, and has a value that it may have.
 pub(crate) fn are_allowed(settings: &[Setting], kinds: &[Kind]) -> bool
-    ensures { result ≡ spec.are_allowed (kinds_of kinds.now) (pairs settings.now) }
+    requires { kinds_fit (kinds_of kinds.now) ≡ true }
+    ensures allowed { result ≡ spec.are_allowed (kinds_of kinds.now) (pairs settings.now) }
+    ensures fit { result ≡ true → NumbersFit (pairs settings.now) }
 {
     names_differ(settings) && each_is_allowed(settings, kinds)
 }

@@ -1,1 +1,3 @@
 pub mod Settings
+pub mod Damages
+pub mod Parts

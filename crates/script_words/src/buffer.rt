@@ -1,10 +1,11 @@
 //! A line of text in a fixed buffer.
 ghost use Rattle.std.specs.Prelude.{◌≡◌, ◌+◌, ◌<◌, ◌≤◌, ◌++◌, ◌∷◌, [], List, ℕ, length, take, decimal};
+ghost use Rattle.hex.specs.Hex.{encode_lower};
 ghost use Rattle.vault_types.specs.Texts.{version_text, text_line};
 
 use itoa::Buffer as Digits;
 use std::marker::Model;
-use vault_types::{Set, Version};
+use vault_types::{Fp, Set, Version};
 
 /// Text of at most 256 bytes, which contracts see as its bytes.
 #[derive(Drop)]
@@ -90,6 +91,24 @@ impl Buffer {
         self.text(before);
         self.version(set, version);
         self.text(after);
+    }
+
+    /// Adds a fingerprint in small hexadecimal digits.
+    pub(crate) fn fingerprint(&mut self, fp: &Fp)
+        requires { length self.old + 40 ≤ 256 }
+        ensures text { self.new ≡ self.old ++ encode_lower fp.now.0 }
+        ensures len { length self.new ≡ length self.old + 40 }
+    {
+        let mut digits = [0; 40];
+        let _ = hex::encode_to_slice(fp.0.as_slice(), &mut digits);
+        self.text(&digits);
+    }
+
+    /// The text.
+    pub(crate) fn as_slice(&self) -> &[u8]
+        ensures { result.now ≡ self.now }
+    {
+        &self.bytes[..self.len]
     }
 
     /// Puts the text with a line feed at the front of `out`, and answers its length.

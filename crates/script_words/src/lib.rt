@@ -8,10 +8,15 @@ mod buffer;
 mod commands;
 mod config;
 mod kinds;
+mod lines;
 mod reader;
 mod settings;
+mod show;
 mod texts;
 mod values;
 
 pub use commands::{read_replica, read_words};
+pub use lines::{Damage, output_text};
+pub use show::show_text;
 pub use texts::{answer_text, fault_text};
+pub use vault_types::{Command, Line};

@@ -1,10 +1,10 @@
 -- The numbers among allowed settings fit their types.
-use Rattle.std.proofs.Common.{◌≡◌, ◌<◌, ◌≤◌, ◌^◌, ℕ, Bool, true, false, not, ◌&&◌, ◌||◌, nat_le, List, [], ◌∷◌, Option, Some, None, is_some, unwrap_or, codes, inl, inr, refl, ap, sym, subst, arith, ◌∙◌}
-use Rattle.std.specs.List.{list_all, list_any, find}
+use Rattle.std.proofs.Common.{◌≡◌, ◌<◌, ◌≤◌, ◌^◌, ℕ, true, false, ◌&&◌, nat_le, List, [], ◌∷◌, Option, Some, None, is_some, unwrap_or, codes, inl, inr, sym, subst, arith}
+use Rattle.std.specs.List.{list_all, list_any}
 use Rattle.std.specs.Str.{bytes_eq}
 use Rattle.std.specs.Cmp.Lexicographic.{bytes_decides}
 use Rattle.std.proofs.lemmas.Bool.{and_parts, or_parts, or_cases, cases_Bool, not-true, leb-true, false≢true}
-use Rattle.vault_types.specs.Words.{Allowed, Number, Word, Kinds, Settings, number, number_in, in_range, is_one_of, is_allowed, is_value, allows, are_allowed, names_differ}
+use Rattle.vault_types.specs.Words.{Allowed, Number, Word, Kinds, Settings, number, number_in, in_range, is_allowed, is_value, allows, are_allowed, names_differ}
 use Rattle.script_words.specs.Settings.{greatest, is_at_most, kinds_fit, NumbersFit}
 
 no_number : (o : Option ℕ) (n : ℕ) → is_some o ≡ false → unwrap_or o 0 ≤ n

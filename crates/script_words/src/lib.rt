@@ -7,16 +7,22 @@
 mod buffer;
 mod commands;
 mod config;
+mod fill;
 mod kinds;
 mod lines;
+mod names;
 mod reader;
+mod script;
+mod script_line;
 mod settings;
 mod show;
 mod texts;
 mod values;
 
 pub use commands::{read_replica, read_words};
+pub use fill::fill_script;
 pub use lines::{Damage, output_text};
+pub use script::read_script;
 pub use show::show_text;
 pub use texts::{answer_text, fault_text};
 pub use vault_types::{Command, Line};

@@ -1,5 +1,5 @@
 //! How settings are spelled.
-ghost use Rattle.std.specs.Prelude.{◌≡◌, ◌<◌, ◌≤◌, ◌^◌, ℕ, None, Some, List, map, drop, length, option_map, nat_eq, string_bytes, MatchOption, IfOk};
+ghost use Rattle.std.specs.Prelude.{◌≡◌, ◌<◌, ◌≤◌, ◌+◌, ◌^◌, ℕ, None, Some, List, map, drop, length, option_map, nat_eq, string_bytes, MatchOption, IfOk};
 ghost use Rattle.std.specs.List.{list_any, position_or_len};
 ghost use Rattle.vault_types.specs.Words as spec;
 ghost use Rattle.script_words.specs.Settings.{pairs, pair_of, FirstSetting};
@@ -64,7 +64,8 @@ fn undashed(word: &[u8]) -> Option<&[u8]>
 
 /// Where a byte first stands in a text, or the text's length.
 pub(crate) fn position_of(byte: u8, text: &[u8]) -> usize
-    ensures { result ≡ position_or_len (nat_eq byte) text.now }
+    ensures place { result ≡ position_or_len (nat_eq byte) text.now }
+    ensures within { result ≤ length text.now }
 {
     for (i, other) in text.iter().enumerate() {
         if byte == *other {
@@ -72,6 +73,15 @@ pub(crate) fn position_of(byte: u8, text: &[u8]) -> usize
         }
     }
     text.len()
+}
+
+/// Where a byte first stands in a text from a place on, or the text's length.
+pub(crate) fn next_place(byte: u8, text: &[u8], start: usize) -> usize
+    requires { start ≤ length text.now }
+    ensures place { result ≡ start + position_or_len (nat_eq byte) (drop start text.now) }
+    ensures within { result ≤ length text.now }
+{
+    start + position_of(byte, &text[start..])
 }
 
 /// The setting that a word `name=value` spells, if it is one.

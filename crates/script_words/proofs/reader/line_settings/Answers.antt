@@ -1,4 +1,4 @@
-use Rattle.std.proofs.Common.{[], arith}
+use Rattle.std.proofs.Common.{[]}
 use Rattle.script_words.proofs.Readings.{line_step}
 use Rattle.script_words.proofs.reader.line_settings.Goals as goal
 

@@ -1,7 +1,7 @@
 use Rattle.std.proofs.Common.{◌≡◌, drop}
 use Rattle.std.specs.List.{list_any}
 use Rattle.std.specs.Str.{bytes_eq}
-use Rattle.script_words.specs.Settings.{pairs, kinds_of}
+use Rattle.script_words.specs.Settings.{pairs}
 use Rattle.script_words.proofs.settings.has_name.Given as goal
 
 abbrev pub invariant-loop-setting : goal.invariant-loop-setting

@@ -1,6 +1,6 @@
 use Rattle.std.proofs.Common.{◌≡◌, drop}
 use Rattle.vault_types.specs.Words as spec
-use Rattle.script_words.specs.Settings.{pairs, kinds_of}
+use Rattle.script_words.specs.Settings.{pairs}
 use Rattle.script_words.proofs.settings.names_differ.Given as goal
 
 abbrev pub invariant-loop-i : goal.invariant-loop-i

@@ -26,3 +26,6 @@ pub use script::read_script;
 pub use show::show_text;
 pub use texts::{answer_text, fault_text};
 pub use vault_types::{Command, Line};
+
+#[cfg(test)]
+mod tests;

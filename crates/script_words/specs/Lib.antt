@@ -1,0 +1,4 @@
+pub mod Settings
+pub mod Damages
+pub mod Parts
+pub mod Names

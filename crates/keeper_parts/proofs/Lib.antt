@@ -1,0 +1,5 @@
+pub mod Standing
+pub mod Changing
+pub mod Cleaning
+pub mod Growing
+pub mod Beginning

@@ -1,5 +1,5 @@
 -- What a decider keeps of the chunks that it has decided.
-use Rattle.std.specs.Prelude.{◌≡◌, ℕ, Bool, List, [], ◌∷◌, map, length, Option}
+use Rattle.std.specs.Prelude.{◌≡◌, ℕ, Bool, List, [], ◌∷◌, map, Option, None}
 use Rattle.std.specs.List.{list_any}
 use Rattle.vault_types.specs.declared.Fp.{Fp}
 use Rattle.vault_types.specs.declared.How.{How}
@@ -28,7 +28,7 @@ looked_up index chunks = map (look_up (found_in index)) (map named_chunk chunks)
 -- the chunks with these answers, by place
 abbrev pub looked_with : List (List ℕ) → List (Option ℕ) → List Looked
 looked_with [] found = []
-looked_with (c ∷ cs) [] = []
+looked_with (c ∷ cs) [] = record { fp = fp c; found = None } ∷ looked_with cs []
 looked_with (c ∷ cs) (o ∷ os) = record { fp = fp c; found = o } ∷ looked_with cs os
 
 -- the places of decided chunks

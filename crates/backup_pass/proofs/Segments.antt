@@ -1,0 +1,41 @@
+-- The open segment takes a chunk, or is closed before it.
+use Rattle.std.proofs.Common.{◌≡◌, ℕ, List, [], ◌∷◌, ◌++◌, map, length, refl, sym, ap, ◌∙◌, subst, append_assoc, append-nil}
+use Rattle.std.proofs.lemmas.List.{map-append}
+use Rattle.segmenter.specs.declared.Cut.{Cut}
+use Rattle.segmenter.specs.declared.Cut.TheVariants.{Same, NewBefore}
+use Rattle.segmenter.specs.Segments.{segments_of as segments_by, in_last, with_next}
+use Rattle.segmenter.proofs.Shapes.{pieces-next}
+use Rattle.vault_types.specs.declared.JobConfig.{JobConfig}
+use Rattle.vault_types.specs.Names.{NamedChunk}
+use Rattle.vault_types.specs.Decide.{segments_of}
+use Rattle.backup_pass.specs.Placing.{only_segment, size_of}
+
+in_last-push : (done : List (List NamedChunk)) (d : NamedChunk) (ds : List NamedChunk) (c : NamedChunk) → in_last (done ++ (d ∷ ds) ∷ []) c ≡ done ++ (d ∷ ds ++ c ∷ []) ∷ []
+in_last-push [] d ds c = refl
+in_last-push (e ∷ []) d ds c = refl
+in_last-push (e ∷ f ∷ done) d ds c = ap (λ ss. e ∷ ss) (in_last-push (f ∷ done) d ds c)
+
+nothing_before : (done : List (List NamedChunk)) → [] ≡ done ++ [] → done ≡ []
+nothing_before [] e = refl
+nothing_before (d ∷ done) e = cc
+
+-- the chunk goes into the open segment
+pub same_segment : (config : JobConfig) (chunks done_with : List NamedChunk) (c : NamedChunk) (done : List (List NamedChunk)) → segments_of config chunks ≡ done ++ only_segment done_with
+    → (done_with ≡ [] → chunks ≡ [])
+    → segments_by config.segment (map size_of chunks ++ size_of c ∷ []) ≡ with_next Same (segments_by config.segment (map size_of chunks)) (size_of c)
+    → segments_of config (chunks ++ c ∷ []) ≡ done ++ only_segment (done_with ++ c ∷ [])
+same_segment config chunks [] c done split some e =
+    let none : chunks ≡ [] = some refl in
+    let before : done ≡ [] = nothing_before done (sym (ap (segments_of config) none) ∙ split) in
+    pieces-next size_of config.segment chunks c Same e
+    ∙ ap (λ ss. in_last ss c) (ap (segments_of config) none)
+    ∙ ap (λ ss. ss ++ (c ∷ []) ∷ []) (sym before)
+same_segment config chunks (d ∷ ds) c done split some e =
+    pieces-next size_of config.segment chunks c Same e ∙ ap (λ ss. in_last ss c) split ∙ in_last-push done d ds c
+
+-- the chunk begins a new segment
+pub new_segment : (config : JobConfig) (chunks segment : List NamedChunk) (c : NamedChunk) (done : List (List NamedChunk)) → segments_of config chunks ≡ done ++ only_segment segment
+    → segments_by config.segment (map size_of chunks ++ size_of c ∷ []) ≡ with_next NewBefore (segments_by config.segment (map size_of chunks)) (size_of c)
+    → segments_of config (chunks ++ c ∷ []) ≡ (done ++ only_segment segment) ++ only_segment (c ∷ [])
+new_segment config chunks segment c done split e =
+    pieces-next size_of config.segment chunks c NewBefore e ∙ ap (λ ss. ss ++ (c ∷ []) ∷ []) split

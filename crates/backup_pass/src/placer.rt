@@ -1,0 +1,130 @@
+// Chunks on their way into containers.
+ghost use Rattle.std.specs.Prelude.{◌≡◌, ◌≤◌, ◌^◌, List, ℕ, Option, OnOk, IfOk, map, length, option_to_list, [], ◌∷◌, ◌++◌};
+ghost use Rattle.vault_types.specs.declared.Fp.{Fp as Print};
+ghost use Rattle.vault_types.specs.declared.How.{How as Hows};
+ghost use Rattle.vault_types.specs.Names.{NamedChunk, named_chunk};
+ghost use Rattle.vault_types.specs.Tables.{Container};
+ghost use Rattle.vault_types.specs.Decide.{Rules, decide, decisions_of};
+ghost use Rattle.vault_types.specs.Fill.{fill};
+ghost use Rattle.fp_index.specs.Index.{found_in};
+ghost use Rattle.rewrite_stage.specs.Deciding.{HasDecided, looked_up};
+ghost use Rattle.container_fill.specs.Filling.{HasFilled, IsFilledBy};
+ghost use Rattle.backup_pass.specs.Placing.{HasPlaced, chunk_in, hows_of, hows_at, answers_of};
+
+use container_fill::{Filled, Filler};
+use container_store::Sealed;
+use fingerprint_stage::Chunk;
+use fp_index::Index;
+use rewrite_stage::{Decided, Decider};
+use segmenter::{Cut, Segmenter};
+use std::alloc::Global;
+use std::mem;
+use vault_types::{Id, JobConfig, Memory};
+
+/// Decides the chunks of a backup, segment by segment, and fills what is written into containers.
+#[derive(Drop)]
+pub struct Placer {
+    segmenter: Segmenter,
+    segment: Vec<Chunk>,
+    decider: Decider,
+    filler: Filler,
+}
+
+// Fills decided chunks.
+fn fill_all(
+    alloc: Global,
+    filler: &mut Filler,
+    decided: Vec<Decided>,
+    out: &mut Vec<Sealed>,
+) -> Result<(), Memory>
+    ensures filled { (first : ℕ) (gone : List Container) (chunks : List NamedChunk) (hows : List Hows)
+        → HasFilled filler.old first (gone ++ out.old.items) chunks hows
+        → OnOk result (HasFilled filler.new first (gone ++ out.new.items) (chunks ++ map chunk_in decided.items) (hows ++ hows_of decided.items)) }
+    ensures capacity { OnOk result (filler.new.capacity ≡ filler.old.capacity) }
+{
+    for one in decided {
+        match filler.push(alloc, one)? {
+            Some(sealed) => out.push(sealed)?,
+            None => {}
+        }
+    }
+    Ok(())
+}
+
+// Decides a segment and fills it.
+fn place_segment(
+    alloc: Global,
+    decider: &mut Decider,
+    filler: &mut Filler,
+    segment: Vec<Chunk>,
+    out: &mut Vec<Sealed>,
+) -> Result<(), Memory>
+    ensures index { decider.new.index ≡ decider.old.index }
+    ensures decided { (r : Rules) (places : List (Print × Hows)) → HasDecided decider.old r places
+        → OnOk result (HasDecided decider.new r (decisions_of r places (looked_up decider.old.index segment.items))) }
+    ensures filled { (r : Rules) (places : List (Print × Hows)) (first : ℕ) (gone : List Container) (chunks : List NamedChunk)
+        → HasDecided decider.old r places → HasFilled filler.old first (gone ++ out.old.items) chunks (hows_at places)
+        → OnOk result (HasFilled filler.new first (gone ++ out.new.items) (chunks ++ map named_chunk segment.items)
+        (hows_at (decisions_of r places (looked_up decider.old.index segment.items)))) }
+    ensures capacity { OnOk result (filler.new.capacity ≡ filler.old.capacity) }
+{
+    let decided = decider.segment(alloc, segment)?;
+    fill_all(alloc, filler, decided, out)
+}
+
+impl Placer {
+    /// A placer that took no chunk. The next free container id is from 1 to 2^63, the container size from 1 to 4,194,304.
+    pub fn new(alloc: Global, index: Index, sparse: Vec<Id>, next: Id, config: JobConfig) -> Placer
+        requires low { 1 ≤ next }
+        requires high { next ≤ 2 ^ 63 }
+        requires some { 1 ≤ config.container }
+        requires most { config.container ≤ 4194304 }
+        ensures placed { HasPlaced result (record { sparse = sparse.items; config = config }) next [] [] }
+        ensures answers { answers_of result ≡ found_in index }
+    {
+        Placer {
+            segmenter: Segmenter::new(config.segment),
+            segment: Vec::new(alloc),
+            decider: Decider::new(alloc, index, sparse, config),
+            filler: Filler::new(alloc, next, config.container),
+        }
+    }
+
+    /// Takes the next chunk. Containers that are full are appended to `out`. After `Memory` the placer is only dropped.
+    pub fn take(&mut self, alloc: Global, chunk: Chunk, out: &mut Vec<Sealed>) -> Result<(), Memory>
+        ensures placed { (r : Rules) (first : ℕ) (chunks : List NamedChunk) (gone : List Container)
+            → HasPlaced self.old r first chunks (gone ++ out.old.items)
+            → OnOk result (HasPlaced self.new r first (chunks ++ named_chunk chunk ∷ []) (gone ++ out.new.items)) }
+        ensures answers { answers_of self.new ≡ answers_of self.old }
+    {
+        match self.segmenter.push(chunk.len()) {
+            Cut::Same => {
+                self.segment.push(chunk)?;
+                return Ok(());
+            }
+            Cut::NewBefore => {
+                let segment = mem::replace(&mut self.segment, Vec::new(alloc));
+                place_segment(alloc, &mut self.decider, &mut self.filler, segment, out)?;
+                self.segment.push(chunk)?;
+                return Ok(());
+            }
+        }
+    }
+
+    /// Decides and fills what is left. All containers are those before, those in `out` and the last one.
+    pub fn finish(self, alloc: Global, out: &mut Vec<Sealed>) -> Result<Filled, Memory>
+        ensures { (r : Rules) (first : ℕ) (chunks : List NamedChunk) (gone : List Container)
+            → HasPlaced self r first chunks (gone ++ out.old.items)
+            → IfOk result (λ f. IsFilledBy (option_to_list f.last) f.rows f.next f.containers f.written first (gone ++ out.new.items) (length chunks)
+            (fill first chunks (decide (answers_of self) r chunks) r.config.container)) }
+    {
+        let Placer {
+            segmenter: _,
+            segment,
+            mut decider,
+            mut filler,
+        } = self;
+        place_segment(alloc, &mut decider, &mut filler, segment, out)?;
+        filler.finish()
+    }
+}

@@ -1,10 +1,10 @@
 -- How the rules of recipes are looked at.
-use Rattle.std.proofs.Common.{◌≡◌, ◌≢◌, ℕ, zero, suc, ◌+◌, ◌*◌, ◌^◌, ◌<◌, ◌≤◌, Bool, true, false, cond, eqb, ◌||◌, List, [], ◌∷◌, ◌++◌, length, take, drop, get_or, map, All, Option, Some, refl, sym, ap, subst, ◌∙◌, arith, add-one}
-use Rattle.std.specs.Prelude.{nat_eq, slice_index_or, IfSome}
-use Rattle.std.specs.List.{AllByRecursion, Contains, list_any}
+use Rattle.std.proofs.Common.{◌≡◌, ℕ, suc, ◌+◌, ◌*◌, ◌^◌, ◌<◌, ◌≤◌, Bool, true, false, cond, eqb, ◌||◌, List, [], ◌∷◌, ◌++◌, length, take, drop, get_or, map, All, Option, Some, refl, sym, ap, subst, ◌∙◌, arith, add-one}
+use Rattle.std.specs.Prelude.{nat_eq, IfSome}
+use Rattle.std.specs.List.{AllByRecursion, Contains}
 use Rattle.std.specs.Cmp.{nat_eq_equiv}
 use Rattle.std.proofs.lemmas.Bool.Decides.{nat_tests}
-use Rattle.std.proofs.lemmas.List.{map-append, length-map, length-drop, nil_from_length}
+use Rattle.std.proofs.lemmas.List.{map-append, length-drop, nil_from_length}
 use Rattle.std.proofs.lemmas.Bool.{eqb-true}
 use Rattle.std.proofs.lemmas.Slice.Eq.{bytes_eq-Decides}
 use Rattle.std.specs.Str.{bytes_eq}
@@ -18,9 +18,9 @@ use Rattle.vault_types.specs.declared.Row.{Row}
 use Rattle.vault_types.specs.declared.Recipe.{Recipe}
 use Rattle.vault_types.specs.Names.{IsFp}
 use Rattle.vault_types.specs.Lists.{has, IsAscending}
-use Rattle.vault_types.specs.State.{length_of, HasRecipeRules}
+use Rattle.vault_types.specs.State.{length_of}
 use Rattle.vault_types.specs.Blobs.{IsRecipe, IsVersion}
-use Rattle.blob_parts.specs.Recipes.{FitsRow, FitIds, HasWidths}
+use Rattle.blob_parts.specs.Recipes.{FitsRow, HasWidths}
 use Rattle.blob_parts.proofs.SparseLemmas.{has_contained, few_sparse}
 
 -- ---- ascending

@@ -1,5 +1,5 @@
 -- What is read as a recipe of the second format is what spells it.
-use Rattle.std.proofs.Common.{◌≡◌, ◌≢◌, ℕ, ◌+◌, ◌*◌, ◌^◌, ◌<◌, ◌≤◌, Bool, true, ltb, List, [], ◌∷◌, ◌++◌, length, Option, Some, None, refl, sym, ap, subst, ◌∙◌, append_assoc, arith}
+use Rattle.std.proofs.Common.{◌≡◌, ℕ, ◌^◌, ◌<◌, ◌≤◌, true, List, [], ◌∷◌, ◌++◌, length, Option, Some, None, refl, sym, ap, ◌∙◌, append_assoc, arith}
 use Rattle.std.specs.Prelude.{IfSome, IsSome, unwrap_or}
 use Rattle.std.specs.List.{AllByRecursion, flat_map}
 use Rattle.std.specs.Option.{option_map_or}
@@ -9,10 +9,9 @@ use Rattle.vault_types.specs.declared.Fp.{Fp}
 use Rattle.vault_types.specs.declared.Row.{Row}
 use Rattle.vault_types.specs.declared.Recipe.{Recipe}
 use Rattle.vault_types.specs.Names.{IsFp}
-use Rattle.vault_types.specs.State.{HasRecipeRules}
-use Rattle.vault_types.specs.Blobs.{runs_of, run_bytes, sparse_bytes, u32_bytes, u64_bytes, with_sum, recipe_bytes, recipe_bytes_1, recipe_bytes_2, SpellsRecipe}
+use Rattle.vault_types.specs.Blobs.{runs_of, run_bytes, sparse_bytes, with_sum, recipe_bytes, recipe_bytes_1, recipe_bytes_2}
 use Rattle.blob_parts.specs.Reading.{number_at, list_at}
-use Rattle.blob_parts.specs.Recipes.{FitsRow, FitIds, HasWidths}
+use Rattle.blob_parts.specs.Recipes.{FitIds, HasWidths}
 use Rattle.blob_parts.proofs.Fields.{IsField, IsTag, fp_field, u32_field, u64_field, tag_field, both_field, made_field, list_field}
 use Rattle.blob_parts.proofs.RuleLemmas.{has_widths}
 use Rattle.recipe_form2.specs.Spelling.{SpellsRecipe2}

@@ -1,8 +1,8 @@
 -- The rows that are read as runs are those that the runs spell.
-use Rattle.std.proofs.Common.{◌≡◌, ◌≢◌, ℕ, zero, suc, ◌+◌, ◌*◌, ◌^◌, ◌<◌, ◌≤◌, Bool, true, false, cond, not, ◌&&◌, eqb, ltb, List, [], ◌∷◌, ◌++◌, length, Option, Some, None, refl, sym, ap, subst, ◌∙◌, append_assoc, arith}
+use Rattle.std.proofs.Common.{◌≡◌, ◌≢◌, ℕ, zero, suc, ◌+◌, ◌^◌, ◌<◌, ◌≤◌, Bool, true, false, cond, not, ◌&&◌, ltb, List, [], ◌∷◌, ◌++◌, length, Option, Some, refl, sym, ap, subst, ◌∙◌, append_assoc, arith}
 use Rattle.std.specs.Prelude.{nat_eq}
 use Rattle.std.specs.List.{AllByRecursion, flat_map}
-use Rattle.std.specs.Int.{w32, w64, to_be_bytes}
+use Rattle.std.specs.Int.{w32, to_be_bytes}
 use Rattle.std.proofs.lemmas.Bool.Decides.{nat_tests}
 use Rattle.std.proofs.lemmas.List.{length-append}
 use Rattle.std.proofs.lemmas.List.Concat.{flat_map-cons}
@@ -10,7 +10,7 @@ use Rattle.vault_types.specs.declared.Fp.{Fp}
 use Rattle.vault_types.specs.declared.Row.{Row}
 use Rattle.vault_types.specs.Names.{IsFp}
 use Rattle.vault_types.specs.Blobs.{Run, row_bytes_2, run_bytes, runs_of, onto_runs}
-use Rattle.blob_parts.specs.Reading.{◌>>=◌, number_at, list_at}
+use Rattle.blob_parts.specs.Reading.{◌>>=◌, number_at}
 use Rattle.blob_parts.specs.Recipes.{FitsRow}
 use Rattle.blob_parts.proofs.Fields.{IsBytes, Takes, IsField, bind_some, some_is, fp_field, u32_field, u64_field, both_field, made_field, tested_field, list_field}
 use Rattle.recipe_form2.specs.Reading.{row_of, row_at, run_of, opens, run_at, runs_at, is_few, all_runs_at, rows_at}

@@ -1,5 +1,5 @@
 -- Reading runs one after the other, as a loop does.
-use Rattle.std.proofs.Common.{◌≡◌, ℕ, suc, ◌-◌, ◌+◌, ◌≤◌, ◌<◌, List, [], ◌∷◌, ◌++◌, Option, Some, None, refl, sym, ap, ◌∙◌, append_assoc, arith}
+use Rattle.std.proofs.Common.{◌≡◌, ℕ, suc, ◌-◌, ◌+◌, ◌<◌, List, ◌++◌, Option, Some, None, refl, sym, ap, ◌∙◌, append_assoc, arith}
 use Rattle.vault_types.specs.declared.Row.{Row}
 use Rattle.vault_types.specs.Blobs.{Run}
 use Rattle.blob_parts.specs.declared.unread.Unread.{Unread}

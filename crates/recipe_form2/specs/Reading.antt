@@ -1,12 +1,11 @@
 -- A recipe of the second format, read from left to right.
-use Rattle.std.specs.Prelude.{◌≡◌, ℕ, zero, suc, ◌<◌, ◌^◌, ◌++◌, ◌==◌, Bool, not, ◌&&◌, nat_lt, List, [], length, flat_map, codes, Option, Some}
+use Rattle.std.specs.Prelude.{ℕ, zero, suc, ◌++◌, ◌==◌, Bool, not, ◌&&◌, nat_lt, List, [], length, Some}
 use Rattle.std.specs.Int.{w32, w64}
 use Rattle.vault_types.specs.declared.Fp.{Fp}
 use Rattle.vault_types.specs.declared.Row.{Row}
 use Rattle.vault_types.specs.declared.Recipe.{Recipe}
-use Rattle.vault_types.specs.Blobs.{Run, u32_bytes, u64_bytes, runs_of, run_bytes, sparse_bytes}
+use Rattle.vault_types.specs.Blobs.{Run}
 use Rattle.blob_parts.specs.Reading.{◌>>=◌, Field, number_at, tag_at, fp_at, list_at, both_at, made_at, tested_at}
-use Rattle.blob_parts.specs.Recipes.{HasWidths}
 
 -- `DRC2`
 abbrev pub tag_2 : ℕ

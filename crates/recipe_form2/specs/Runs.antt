@@ -1,5 +1,5 @@
 -- The first run of some rows.
-use Rattle.std.specs.Prelude.{ℕ, zero, suc, List, [], ◌∷◌, ◌==◌, if◌then◌else◌}
+use Rattle.std.specs.Prelude.{ℕ, suc, List, [], ◌∷◌, ◌==◌, if◌then◌else◌}
 use Rattle.vault_types.specs.declared.Row.{Row}
 use Rattle.vault_types.specs.Blobs.{Run}
 

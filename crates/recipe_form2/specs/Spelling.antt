@@ -1,5 +1,5 @@
 -- Recipes that have a sum of their version.
-use Rattle.std.specs.Prelude.{◌≡◌, ℕ, List, IsSome, Some}
+use Rattle.std.specs.Prelude.{ℕ, List, IsSome}
 use Rattle.vault_types.specs.declared.Recipe.{Recipe}
 use Rattle.vault_types.specs.Blobs.{SpellsRecipe, IsRecipe}
 

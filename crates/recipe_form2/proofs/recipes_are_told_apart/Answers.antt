@@ -1,4 +1,4 @@
-use Rattle.std.proofs.Common.{◌≡◌, ◌∙◌, ◌++◌, List, ℕ, sym, ap}
+use Rattle.std.proofs.Common.{◌∙◌, ◌++◌, List, ℕ, sym, ap}
 use Rattle.blob_parts.proofs.Fields.{blob_same}
 use Rattle.recipe_form2.proofs.RecipeField.{recipe_field, is_second, second_spelled}
 use Rattle.recipe_form2.proofs.recipes_are_told_apart.Goals as goal

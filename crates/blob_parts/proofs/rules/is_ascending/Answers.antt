@@ -1,6 +1,6 @@
 use Rattle.std.proofs.Common.{◌≡◌, ◌-◌, ◌+◌, ℕ, suc, subst, sym, arith, drop}
 use Rattle.vault_types.specs.Lists.{IsAscending}
-use Rattle.blob_parts.proofs.RuleLemmas.{ascending_next, ascending_before, ascending_less, ascending_end}
+use Rattle.blob_parts.proofs.RuleLemmas.{ascending_next, ascending_before, ascending_end}
 use Rattle.blob_parts.proofs.rules.is_ascending.Goals as goal
 
 pub loop-i-preserved : goal.loop-i-preserved

@@ -1,6 +1,6 @@
 -- What a monitor has counted of the rows that it saw.
-use Rattle.std.specs.Prelude.{◌≡◌, ℕ, Bool, ◌&&◌, List, map, length, sum_by, nat_eq, ◌==◌, Option, Some, None, unwrap_or, if◌then◌else◌}
-use Rattle.std.specs.List.{list_any, IsDistinct}
+use Rattle.std.specs.Prelude.{◌≡◌, ◌≤◌, ℕ, Bool, ◌&&◌, List, map, length, sum_by, nat_eq, ◌==◌, Option, Some, None, unwrap_or, if◌then◌else◌}
+use Rattle.std.specs.List.{list_any, AllByRecursion, IsDistinct}
 use Rattle.std.specs.Map.{lookup}
 use Rattle.vault_types.specs.declared.Fp.{Fp}
 use Rattle.vault_types.specs.declared.Row.{Row}
@@ -24,12 +24,13 @@ ids_of rows = map (λ r. r.id) rows
 abbrev pub refers : List Row → Fp → ℕ → Bool
 refers rows f c = list_any (λ r. same_fp r.fp f && (r.id == c)) rows
 
--- the counts are those of these rows
+-- the counts are those of these rows, each of at most 65,536 bytes
 pub record HasSeen (m : Counted) (seen : List Row) : Type 0 where
+  pub lens : AllByRecursion (λ r. r.len ≤ 65536) seen
   pub rows : m.rows ≡ length seen
   pub total : m.total ≡ sum_by (λ r. r.len) seen
   pub ids : m.ids ≡ distinct_by nat_eq (ids_of seen)
-  pub pairs : (f : Fp) (c : ℕ) → list_any (λ p. same_fp p.0 f && (p.1 == c)) m.pairs ≡ refers seen f c
+  pub pairs : (f : Fp) (c : ℕ) → list_any (λ p. same_fp f p.0 && nat_eq c p.1) m.pairs ≡ refers seen f c
   pub sums : (c : ℕ) → lookup (nat_eq c) m.sums ≡ (if has c (ids_of seen) then Some (referenced seen c) else None)
 
 -- the number that a list of pairs gives for a container

@@ -2,15 +2,19 @@
 //! history-aware rewriting of Fu and others (USENIX ATC 2014).
 #![tactic(auto)]
 
-ghost use Rattle.std.specs.Prelude.{◌≡◌, ◌<◌, ◌≤◌, ◌^◌, ◌++◌, ◌∷◌, [], List, IfOk, OnOk};
+ghost use Rattle.std.specs.Prelude.{◌≡◌, ◌<◌, ◌≤◌, ◌^◌, ◌+◌, ◌++◌, ◌∷◌, [], List, ℕ, IfOk, OnOk};
 ghost use Rattle.vault_types.specs.declared.Row.{Row as Reference};
 ghost use Rattle.vault_types.specs.Sparse.{sparse};
 ghost use Rattle.har_monitor.specs.Monitor.{HasSeen, NamesEach, payload_of};
 
+mod used;
+
+use crate::used::{add, first_ids, little_used, sort_by_use};
 use std::alloc::Global;
 use std::collections::{HashMap, HashSet};
 use std::marker::Model;
 use vault_types::{Fp, Id, Memory, Row};
+
 
 /// Counts the rows of a version as they pass: how many bytes of each container they refer to, where a
 /// fingerprint counts once in a container, with the length of its first row.
@@ -53,7 +57,12 @@ impl Monitor {
         requires high { row.now.len ≤ 65536 }
         ensures { (seen : List Reference) → HasSeen self.old seen → OnOk result (HasSeen self.new (seen ++ row.now ∷ [])) }
     {
-        Err(Memory)
+        if self.pairs.insert((row.fp, row.id))? {
+            add(&mut self.sums, &mut self.ids, row.id, row.len)?;
+        }
+        self.rows += 1;
+        self.total = self.total.saturating_add(u64::from(row.len));
+        Ok(())
     }
 
     /// The containers that the rows named, in the order of first sight.
@@ -77,6 +86,11 @@ impl Monitor {
         requires named { NamesEach self.ids payloads.now }
         ensures { (seen : List Reference) → HasSeen self seen → IfOk result (λ list. list.items ≡ sparse seen (payload_of payloads.now) threshold limit) }
     {
-        Err(Memory)
+        let mut used = little_used(alloc, &self.sums, payloads, threshold)?;
+        sort_by_use(&mut used);
+        let room = limit as u128 * self.total as u128;
+        let mut list = first_ids(alloc, used.as_slice(), room)?;
+        list.sort_unstable();
+        Ok(list)
     }
 }

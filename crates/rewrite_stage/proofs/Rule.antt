@@ -99,7 +99,7 @@ pub whole_segment : (r : Rules) (places : List (Fp × How)) (cs : List (List ℕ
     → decide_all places (pairs cs allowed) ≡ decisions_of r places (looked_with cs found)
 whole_segment r places cs found counted allowed config s n e =
     ap (λ os. decide_all places (pairs cs os)) (e ∙ ap (λ j. allowed_of j counted) s ∙ ap (allowed_of r.config) n
-      ∙ map-twice (counted_id r places) (λ o. only_if (λ c. cond (caps r.config.rewrite) (has c (kept_ids (map (counted_id r places) (looked_with cs found)) r.config.cap)) true) o) (looked_with cs found))
+    ∙ map-twice (counted_id r places) (λ o. only_if (λ c. cond (caps r.config.rewrite) (has c (kept_ids (map (counted_id r places) (looked_with cs found)) r.config.cap)) true) o) (looked_with cs found))
     ∙ ap (decide_all places) (pairs-looked (allowed_id r places (looked_with cs found)) cs found)
     ∙ sym (decisions_in-is (allowed_id r places (looked_with cs found)) places (looked_with cs found))
 

@@ -52,8 +52,8 @@ pub counted-more : (g : Looked → Option ℕ) (chunks : List (List ℕ)) (found
 counted-more g chunks found items x i d l e h =
     let place : length (take i chunks) ≡ i = length-take-le i chunks (omega arith) in
     let more : looked_with (take (i + 1) chunks) found ≡ looked_with (take i chunks) found ++ record { fp = fp (get_or chunks i d); found = get_or found i None } ∷ [] =
-      ap (λ cs. looked_with cs found) (take_more chunks i d l) ∙ looked_with-push (take i chunks) (get_or chunks i d) found
-      ∙ ap (λ n. looked_with (take i chunks) found ++ record { fp = fp (get_or chunks i d); found = get_or found n None } ∷ []) place in
+    ap (λ cs. looked_with cs found) (take_more chunks i d l) ∙ looked_with-push (take i chunks) (get_or chunks i d) found
+    ∙ ap (λ n. looked_with (take i chunks) found ++ record { fp = fp (get_or chunks i d); found = get_or found n None } ∷ []) place in
     ap (λ os. os ++ x ∷ []) e ∙ ap (λ o. map g (looked_with (take i chunks) found) ++ o ∷ []) h
     ∙ sym (ap (map g) more ∙ map-append g (looked_with (take i chunks) found) (record { fp = fp (get_or chunks i d); found = get_or found i None } ∷ []))
 
@@ -84,7 +84,7 @@ so_far-more old mid new allowed chunks ds c o h s index at says then' = record {
       let before : List (Fp × How) = places ++ places_of ds in
       let whole : before ≡ decide_all places (pairs chunks allowed) = s.places r places i in
       let answer : h ≡ how (is_written (decide_all places (pairs chunks allowed)) (fp c)) (get_or allowed (length chunks) None) =
-        says r before (s.decided r places i) ∙ ap (λ ps. how (is_written ps (fp c)) o) whole ∙ ap (λ p. how (is_written (decide_all places (pairs chunks allowed)) (fp c)) p) at in
+      says r before (s.decided r places i) ∙ ap (λ ps. how (is_written ps (fp c)) o) whole ∙ ap (λ p. how (is_written (decide_all places (pairs chunks allowed)) (fp c)) p) at in
       places-push places ds (record { chunk = c; how = h })
       ∙ ap (λ ps. ps ++ (fp c, h) ∷ []) whole
       ∙ ap (λ k. decide_all places (pairs chunks allowed) ++ (fp c, k) ∷ []) answer

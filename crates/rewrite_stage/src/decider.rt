@@ -153,7 +153,9 @@ impl Decider {
             return None;
         }
         match found {
-            Some(id) if avoids_sparse(self.config.rewrite) && is_among(self.sparse.as_slice(), id) => None,
+            Some(id)
+                if avoids_sparse(self.config.rewrite) && is_among(self.sparse.as_slice(), id) =>
+                None,
             _ => found,
         }
     }

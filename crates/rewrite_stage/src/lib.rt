@@ -2,6 +2,8 @@
 #![tactic(auto)]
 
 mod decider;
+#[cfg(test)]
+mod tests;
 
 pub use decider::Decider;
 use fingerprint_stage::Chunk;

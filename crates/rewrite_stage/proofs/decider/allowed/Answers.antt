@@ -10,5 +10,5 @@ returns-then-not-caps c = uncapped c.args.config c.args.counted.items (sym c.cap
 pub returns : goal.returns
 returns c =
     let same : map (only_kept (kept_ids c.as_slice.result.now c.args.config.cap)) c.as_slice.result.now ≡ allowed_of c.args.config c.args.counted.items =
-      ap (λ os. map (only_kept (kept_ids os c.args.config.cap)) os) c.as_slice.ensures.value ∙ capped-is c.args.config c.args.counted.items (sym c.caps.ensures ∙ c.if-not-caps.false) in
+    ap (λ os. map (only_kept (kept_ids os c.args.config.cap)) os) c.as_slice.ensures.value ∙ capped-is c.args.config c.args.counted.items (sym c.caps.ensures ∙ c.if-not-caps.false) in
     subst (λ os. IfOk c.capped.result (λ a. a.items ≡ os)) same c.capped.ensures

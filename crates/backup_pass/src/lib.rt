@@ -5,6 +5,8 @@
 
 mod pass;
 mod placer;
+#[cfg(test)]
+mod tests;
 
 pub use pass::{Pass, Passed};
 pub use placer::Placer;

@@ -1,11 +1,10 @@
 -- Recipes and floors that are spelled alike.
-use Rattle.std.proofs.Common.{◌≡◌, ◌≢◌, ℕ, ◌<◌, ◌≤◌, ◌^◌, List, [], ◌∷◌, ◌++◌, get_or, Option, Some, None, refl, sym, ap, ◌∙◌, arith}
+use Rattle.std.proofs.Common.{◌≡◌, ℕ, ◌<◌, ◌≤◌, ◌^◌, List, [], ◌++◌, get_or, Option, Some, None, refl, sym, ap, ◌∙◌, arith}
 use Rattle.std.specs.Prelude.{IsSome}
 use Rattle.std.specs.Int.{w32, to_be_bytes}
-use Rattle.std.specs.Option.{option_map_or}
 use Rattle.vault_types.specs.declared.Fp.{Fp}
 use Rattle.vault_types.specs.declared.Recipe.{Recipe}
-use Rattle.vault_types.specs.Blobs.{with_sum, recipe_bytes, floor_bytes, SpellsRecipe, SpellsFloor}
+use Rattle.vault_types.specs.Blobs.{with_sum, SpellsRecipe, SpellsFloor}
 use Rattle.blob_parts.specs.Reading.{number_at, tag_at, both_at}
 use Rattle.blob_parts.proofs.Fields.{IsField, IsTag, tag_field, u32_field, both_field, blob_same}
 use Rattle.recipe_form2.specs.Spelling.{SpellsRecipe2}

@@ -1,6 +1,5 @@
 -- What is read as a recipe of the first format is what spells it.
-use Rattle.std.proofs.Common.{◌≡◌, ℕ, ◌+◌, ◌*◌, ◌^◌, ◌<◌, ◌≤◌, Bool, true, List, [], ◌∷◌, ◌++◌, length, Option, Some, None, refl, sym, ap, subst, ◌∙◌, append_assoc, arith}
-use Rattle.std.specs.Prelude.{IfSome}
+use Rattle.std.proofs.Common.{◌≡◌, ℕ, ◌^◌, ◌<◌, ◌≤◌, List, ◌++◌, length, Option, None, refl, sym, ap, ◌∙◌, append_assoc, arith}
 use Rattle.std.specs.List.{AllByRecursion, flat_map}
 use Rattle.std.specs.Option.{option_map_or}
 use Rattle.std.specs.Int.{w32, w64, to_be_bytes}
@@ -9,10 +8,9 @@ use Rattle.std.proofs.lemmas.List.{length-append}
 use Rattle.vault_types.specs.declared.Fp.{Fp}
 use Rattle.vault_types.specs.declared.Row.{Row}
 use Rattle.vault_types.specs.declared.Recipe.{Recipe}
-use Rattle.vault_types.specs.Names.{IsFp}
 use Rattle.vault_types.specs.Blobs.{row_bytes_1, with_sum, recipe_bytes, recipe_bytes_1, recipe_bytes_2, SpellsRecipe}
 use Rattle.blob_parts.specs.Reading.{number_at, list_at}
-use Rattle.blob_parts.specs.Recipes.{FitsRow, FitIds, HasWidths}
+use Rattle.blob_parts.specs.Recipes.{FitsRow, FitIds}
 use Rattle.blob_parts.proofs.Fields.{IsField, IsTag, fp_field, u32_field, u64_field, tag_field, both_field, made_field, list_field}
 use Rattle.blob_parts.proofs.RuleLemmas.{has_widths}
 use Rattle.recipe_store.specs.Plain.{plain_tag, row_of, row_at, plain_of, plain_at, plain_head, IsPlain}

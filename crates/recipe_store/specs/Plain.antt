@@ -1,5 +1,5 @@
 -- A recipe of the first format, read from left to right.
-use Rattle.std.specs.Prelude.{◌≡◌, ℕ, ◌<◌, ◌^◌, ◌++◌, List, length, flat_map, codes, None}
+use Rattle.std.specs.Prelude.{◌≡◌, ℕ, ◌++◌, List, length, flat_map, codes, None}
 use Rattle.std.specs.Int.{w32, w64}
 use Rattle.vault_types.specs.declared.Fp.{Fp}
 use Rattle.vault_types.specs.declared.Row.{Row}

@@ -1,4 +1,4 @@
-use Rattle.std.proofs.Common.{arith, ap, length, ◌<◌, ℕ, List, subst, sym}
+use Rattle.std.proofs.Common.{arith, ap, length}
 use Rattle.blob_parts.proofs.SparseLemmas.{few_sparse}
 use Rattle.recipe_store.proofs.plain.encode_plain.Goals as goal
 

@@ -1,6 +1,6 @@
 -- What a filler has filled, step by step and at the end.
-use Rattle.std.proofs.Common.{◌≡◌, ◌⊎◌, inl, inr, ℕ, ◌+◌, ◌*◌, ◌^◌, ◌≤◌, ◌<◌, Bool, true, false, cond, List, [], ◌∷◌, ◌++◌, map, length, refl, sym, ap, ◌∙◌, subst, arith, length-append, append-nil, Option, Some, None}
-use Rattle.std.specs.Prelude.{is_some, sum_by, nat_lt, unwrap_or, IsSome, IfSome, OnOk, Result, Ok, Err, option_to_list}
+use Rattle.std.proofs.Common.{◌≡◌, ◌⊎◌, inl, inr, ℕ, ◌+◌, ◌*◌, ◌≤◌, ◌<◌, Bool, true, false, cond, List, [], ◌∷◌, ◌++◌, map, length, refl, sym, ap, ◌∙◌, subst, arith, length-append, append-nil, Option, Some, None}
+use Rattle.std.specs.Prelude.{is_some, sum_by, unwrap_or, IsSome, IfSome, OnOk, Result, Ok, Err, option_to_list}
 use Rattle.std.proofs.lemmas.List.{map-append}
 use Rattle.std.proofs.lemmas.Bool.Decides.{nat_tests}
 use Rattle.vault_types.specs.declared.Fp.{Fp}
@@ -8,16 +8,15 @@ use Rattle.vault_types.specs.declared.Row.{Row}
 use Rattle.vault_types.specs.declared.How.{How}
 use Rattle.vault_types.specs.declared.How.TheVariants.{Old, Own, Write}
 use Rattle.vault_types.specs.Names.{fp, NamedChunk, named_chunk}
-use Rattle.vault_types.specs.Decide.{is_written}
 use Rattle.vault_types.specs.Pieces.{pieces}
 use Rattle.vault_types.specs.Tables.{Container}
 use Rattle.vault_types.specs.Fill.{writes, new_container, new_containers, rows_of, Filled, fill}
 use Rattle.container_fill.specs.Opened.{bytes_in}
 use Rattle.container_fill.specs.Carried.{carried, carried_how, AreInTurn}
-use Rattle.container_fill.specs.Filling.{Filling, taken_by, opened, written_in, saturated, size_of, ArePacked, places_of, Keeps, HasFilled, closed_with, closed, is_over, roomed, given_for, with_row, IsPut, IsFilledBy}
+use Rattle.container_fill.specs.Filling.{Filling, taken_by, opened, written_in, saturated, size_of, ArePacked, Keeps, HasFilled, closed_with, closed, is_over, roomed, given_for, with_row, IsPut, IsFilledBy}
 use Rattle.container_fill.proofs.PackLemmas.{packed-fits, packed-over, packed-end, only}
 use Rattle.container_fill.proofs.PlaceLemmas.{containers-append, containers-len, opened-as, named-bytes}
-use Rattle.container_fill.proofs.StepLemmas.{writes-more, carried-more, carried-len, carried-in_turn}
+use Rattle.container_fill.proofs.StepLemmas.{writes-more, carried-more, carried-in_turn}
 use Rattle.container_fill.proofs.KeepLemmas.{keeps-closed, keeps-old, keeps-own, keeps-put}
 
 -- a decision that is not for an old container

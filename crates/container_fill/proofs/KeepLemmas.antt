@@ -1,12 +1,11 @@
 -- What a filler keeps, step by step.
-use Rattle.std.proofs.Common.{◌≡◌, ℕ, ◌+◌, ◌*◌, ◌≤◌, Bool, true, false, cond, ◌&&◌, ◌||◌, List, [], ◌∷◌, ◌++◌, map, length, refl, sym, ap, ◌∙◌, subst, arith, length-append, append_assoc, append-nil, Option, Some, None}
+use Rattle.std.proofs.Common.{◌≡◌, ℕ, ◌+◌, ◌*◌, ◌≤◌, Bool, true, false, cond, ◌&&◌, ◌||◌, List, [], ◌∷◌, ◌++◌, map, length, refl, sym, ap, ◌∙◌, subst, arith, length-append, append-nil, Option, Some, None}
 use Rattle.std.specs.Prelude.{is_some, unwrap_or}
 use Rattle.std.specs.List.{list_any}
 use Rattle.std.specs.Map.{lookup}
 use Rattle.std.proofs.lemmas.List.{map-append}
 use Rattle.std.proofs.lemmas.List.Folds.{list_any-append}
 use Rattle.vault_types.specs.declared.Fp.{Fp}
-use Rattle.vault_types.specs.declared.Row.{Row}
 use Rattle.vault_types.specs.declared.How.{How}
 use Rattle.vault_types.specs.declared.How.TheVariants.{Old, Own, Write}
 use Rattle.vault_types.specs.Names.{fp, same_fp, NamedChunk, named_chunk}
@@ -14,7 +13,7 @@ use Rattle.vault_types.specs.Decide.{is_written, is_write}
 use Rattle.vault_types.specs.Tables.{Container}
 use Rattle.vault_types.specs.Fill.{rows_of, new_container}
 use Rattle.vault_types.proofs.FillLemmas.{same_fps}
-use Rattle.container_fill.specs.Filling.{Filling, taken_by, opened, place_of, written_in, saturated, HaveTakers, places_of, Keeps, closed_with, with_row, IsPut}
+use Rattle.container_fill.specs.Filling.{Filling, taken_by, opened, place_of, written_in, saturated, places_of, Keeps, closed_with, with_row, IsPut}
 use Rattle.container_fill.proofs.FpLemmas.{same-refl, same-symm}
 use Rattle.container_fill.proofs.PlaceLemmas.{place-put, written-put, opened-len}
 use Rattle.container_fill.proofs.StepLemmas.{rows-more, rows-stay, places-more, takers-more, takers-stay}

@@ -1,16 +1,13 @@
 -- The rows and the payload of a container that is being filled.
-use Rattle.std.proofs.Common.{◌≡◌, ℕ, ◌+◌, ◌≤◌, Bool, true, false, List, [], ◌∷◌, ◌++◌, map, length, take, drop, refl, sym, ap, ◌∙◌, subst, arith, length-append, append-nil, suc, ◌<◌, ◌^◌, Some}
-use Rattle.std.specs.Prelude.{sum_by}
+use Rattle.std.proofs.Common.{◌≡◌, ℕ, ◌+◌, ◌≤◌, false, List, [], ◌∷◌, ◌++◌, map, length, drop, refl, sym, ap, ◌∙◌, subst, arith, length-append, append-nil, suc, ◌<◌, ◌^◌, Some}
 use Rattle.std.specs.List.{concat, list_any, AllByRecursion, IsDistinct}
 use Rattle.std.proofs.lemmas.List.{map-append}
 use Rattle.std.proofs.lemmas.List.Folds.{concat-append}
 use Rattle.std.proofs.lemmas.List.Sums.{sum_by-append, sum_by-cons}
 use Rattle.std.proofs.lemmas.Map.Keys.{IsDistinct-push}
 use Rattle.std.proofs.Math.Seq.{take-append_seam, drop-append_seam}
-use Rattle.sha1.specs.Sha1.{sha1}
 use Rattle.vault_types.specs.declared.TableRow.{TableRow}
-use Rattle.vault_types.specs.declared.Table.{Table}
-use Rattle.vault_types.specs.Names.{fp, same_fp, IsFp, NamedChunk, named_chunk}
+use Rattle.vault_types.specs.Names.{fp, same_fp, IsFp, named_chunk}
 use Rattle.vault_types.specs.Tables.{Container, table_row, payload_len, IsTable, IsWhole}
 use Rattle.vault_types.specs.Fill.{new_container}
 use Rattle.vault_types.specs.Bytes.{chunks_of_rows}

@@ -1,8 +1,7 @@
 -- What is decided for a job is in turn: an own write has an earlier one, and a write has none.
-use Rattle.std.proofs.Common.{◌≡◌, ℕ, Bool, true, false, List, [], ◌∷◌, ◌++◌, map, refl, sym, ap, ◌∙◌, subst, append_assoc, append-nil, Option, Some, None}
+use Rattle.std.proofs.Common.{◌≡◌, ℕ, Bool, true, false, List, [], ◌∷◌, ◌++◌, map, refl, sym, subst, append_assoc, append-nil, Option, Some, None}
 use Rattle.vault_types.specs.declared.Fp.{Fp}
 use Rattle.vault_types.specs.declared.How.{How}
-use Rattle.vault_types.specs.declared.How.TheVariants.{Old, Own, Write}
 use Rattle.vault_types.specs.Names.{NamedChunk}
 use Rattle.vault_types.specs.Decide.{Rules, Looked, is_written, how, decisions_in, decisions_of, decisions, allowed_id, segments, decide_segments, decide}
 use Rattle.vault_types.proofs.DecideLemmas.{fps_of}

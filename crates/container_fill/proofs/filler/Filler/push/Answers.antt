@@ -1,8 +1,6 @@
-use Rattle.std.proofs.Common.{rules, ◌≡◌, ◌≤◌, ◌+◌, ℕ, List, [], ◌∷◌, ◌++◌, length, arith, ap, ◌∙◌, sym, refl, subst, Some, None}
-use Rattle.std.specs.Prelude.{option_to_list, IfSome}
-use Rattle.std.proofs.lemmas.Grind.{common_steps}
-use Rattle.vault_types.specs.declared.How.{How}
-use Rattle.vault_types.specs.Names.{fp, NamedChunk, named_chunk}
+use Rattle.std.proofs.Common.{◌≡◌, ◌+◌, ℕ, List, [], ◌∷◌, ◌++◌, length, arith, ap, ◌∙◌, sym, subst}
+use Rattle.std.specs.Prelude.{option_to_list}
+use Rattle.vault_types.specs.Names.{named_chunk}
 use Rattle.vault_types.specs.Tables.{Container}
 use Rattle.container_fill.specs.Filling.{Filling, taken_by, HasFilled, with_row, IsPut, roomed, given_for, is_over}
 use Rattle.container_fill.proofs.FillerLemmas.{row-old, row-own, gone-none, is_new, filled-put, given-id, roomed-next, roomed-capacity}

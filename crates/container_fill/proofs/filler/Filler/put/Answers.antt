@@ -1,9 +1,8 @@
-use Rattle.std.proofs.Common.{◌≡◌, ◌≤◌, ◌<◌, ◌+◌, ◌^◌, ℕ, cond, List, [], ◌∷◌, ◌++◌, length, length-append, ap, ◌∙◌, sym, arith, Some}
+use Rattle.std.proofs.Common.{◌≡◌, ◌≤◌, ◌+◌, ◌^◌, cond, [], ◌∷◌, ◌++◌, length, length-append, ap, ◌∙◌, arith, Some}
 use Rattle.std.specs.Map.{lookup}
 use Rattle.std.specs.Option.{option_map_or}
 use Rattle.std.proofs.lemmas.Grind.{common_steps}
 use Rattle.vault_types.specs.declared.Fp.{Fp}
-use Rattle.vault_types.specs.declared.Row.{Row}
 use Rattle.vault_types.specs.Names.{fp, same_fp}
 use Rattle.container_fill.specs.Filling.{Filling}
 use Rattle.container_fill.proofs.KeepLemmas.{covered-put}

@@ -1,11 +1,7 @@
-use Rattle.std.proofs.Common.{◌≡◌, ℕ, List, [], ◌∷◌, ◌++◌, length, ap, ◌∙◌, sym, refl, subst, inl, inr, OnOk, Some, None}
+use Rattle.std.proofs.Common.{◌≡◌, ap, ◌∙◌, sym, refl, inl, Some}
 use Rattle.std.specs.Prelude.{unwrap_or, IsSome}
-use Rattle.vault_types.specs.declared.How.{How}
 use Rattle.vault_types.specs.declared.How.TheVariants.{Own}
-use Rattle.vault_types.specs.Names.{NamedChunk}
-use Rattle.vault_types.specs.Tables.{Container}
-use Rattle.container_fill.specs.Carried.{row_how}
-use Rattle.container_fill.specs.Filling.{taken_by, HasFilled}
+use Rattle.container_fill.specs.Filling.{taken_by}
 use Rattle.container_fill.proofs.FillerLemmas.{row-old, row-own, on_ok, there}
 use Rattle.container_fill.proofs.filler.Filler.row.Goals as goal
 

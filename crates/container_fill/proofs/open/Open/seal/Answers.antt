@@ -1,8 +1,8 @@
-use Rattle.std.proofs.Common.{◌≡◌, ℕ, List, map, ap, ◌∙◌, sym, subst, Some}
+use Rattle.std.proofs.Common.{List, map, ap, ◌∙◌, Some}
 use Rattle.vault_types.specs.declared.TableRow.{TableRow}
 use Rattle.vault_types.specs.declared.Fp.{Fp}
 use Rattle.vault_types.specs.Names.{fp, named_chunk}
-use Rattle.vault_types.specs.Tables.{Container, IsTable}
+use Rattle.vault_types.specs.Tables.{Container}
 use Rattle.vault_types.specs.Fill.{new_container}
 use Rattle.container_fill.proofs.OpenLemmas.{sealed-table, sealed-is}
 use Rattle.container_fill.proofs.open.Open.seal.Goals as goal

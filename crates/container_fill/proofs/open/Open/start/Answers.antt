@@ -1,6 +1,5 @@
-use Rattle.std.proofs.Common.{◌≡◌, ℕ, List, [], ◌∷◌, ◌++◌, ap, ◌∙◌, sym, subst}
+use Rattle.std.proofs.Common.{◌≡◌, [], ◌∷◌, ◌++◌, ap, ◌∙◌}
 use Rattle.vault_types.specs.Tables.{table_row}
-use Rattle.container_fill.specs.Opened.{IsOpen}
 use Rattle.container_fill.proofs.OpenLemmas.{open-one}
 use Rattle.container_fill.proofs.open.Open.start.Goals as goal
 

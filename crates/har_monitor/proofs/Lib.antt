@@ -2,3 +2,4 @@ mod Order
 mod Seeing
 mod Parts
 mod Ranking
+pub mod Callers

@@ -1,5 +1,5 @@
 -- The containers of which little is used, sorted, are the sparse ones in the order of the rule.
-use Rattle.std.proofs.Common.{◌≡◌, ℕ, zero, suc, ◌+◌, ◌-◌, ◌*◌, ◌<◌, ◌≤◌, Bool, true, false, cond, not, ◌&&◌, ◌||◌, max, List, [], ◌∷◌, ◌++◌, map, filter, length, take, drop, get_or, refl, sym, ap, ◌∙◌, subst, arith, add-one, Option, Some, None, unwrap_or, nat_cmp}
+use Rattle.std.proofs.Common.{◌≡◌, ℕ, zero, suc, ◌+◌, ◌-◌, ◌*◌, ◌<◌, ◌≤◌, Bool, true, false, cond, not, ◌&&◌, ◌||◌, max, List, [], ◌∷◌, map, filter, length, take, get_or, refl, sym, ap, ◌∙◌, subst, arith, add-one, Some, unwrap_or, nat_cmp}
 use Rattle.std.specs.Prelude.{nat_eq, nat_lt, nat_le, sum_by, ◌==◌}
 use Rattle.std.specs.List.{AllByRecursion, IsDistinct}
 use Rattle.std.specs.List.Sorted.{IsPermutation, IsSortedBy, IsSorted}
@@ -42,13 +42,14 @@ sorted-tail u us h = λ k d low high.
     let next : k + 1 ≡ suc k = add-one k in
     subst (λ n. goes_first (get_or us n d) (get_or us k d) ≡ false) (sym next)
     (let e : goes_first (get_or (u ∷ us) (suc k + 1) d) (get_or (u ∷ us) (suc k) d) ≡ false = h (suc k) d (omega arith) (omega arith) in
-      subst (λ n. goes_first (get_or (u ∷ us) n d) (get_or us k d) ≡ false) (add-one (suc k)) e)
+    subst (λ n. goes_first (get_or (u ∷ us) n d) (get_or us k d) ≡ false) (add-one (suc k)) e)
 
 in_order : (us : List Used) → IsSortedBy goes_first us → IsInOrder us
 in_order [] h = tt
-in_order (u ∷ us) h =
-    (all_from_places (λ v. goes_first v u ≡ false) us (λ k d l. sorted_far goes_first weak_order (u ∷ us) h 0 (suc k) d (omega arith) (omega arith)),
-      in_order us (sorted-tail u us h))
+in_order (u ∷ us) h = (
+  all_from_places (λ v. goes_first v u ≡ false) us (λ k d l. sorted_far goes_first weak_order (u ∷ us) h 0 (suc k) d (omega arith) (omega arith)),
+  in_order us (sorted-tail u us h),
+)
 
 -- what is known of each container of which little is used
 
@@ -70,9 +71,10 @@ given-more q qs (p ∷ ps) h i =
 all_given : (ps : List (ℕ × ℕ)) → IsDistinct nat_eq (map (λ p. p.0) ps) → AllByRecursion (IsGiven ps) ps
 all_given [] h = tt
 all_given (p ∷ ps) h =
-    let self : nat_eq p.0 p.0 ≡ true = grind (arith, nat_tests) in
-    (ap (λ b. unwrap_or (cond b (Some p.1) (lookup (nat_eq p.0) ps)) 0) self,
-      given-more p ps ps (IsDistinct-head nat_eq p.0 (map (λ p. p.0) ps) h) (all_given ps (IsDistinct-tail nat_eq p.0 (map (λ p. p.0) ps) h)))
+    let self : nat_eq p.0 p.0 ≡ true = grind (arith, nat_tests) in (
+      ap (λ b. unwrap_or (cond b (Some p.1) (lookup (nat_eq p.0) ps)) 0) self,
+      given-more p ps ps (IsDistinct-head nat_eq p.0 (map (λ p. p.0) ps) h) (all_given ps (IsDistinct-tail nat_eq p.0 (map (λ p. p.0) ps) h)),
+    )
 
 all_meant : (m : Counted) (seen : List Row) (payloads ps : List (ℕ × ℕ)) → HasSeen m seen → AllByRecursion (IsGiven payloads) ps → AllByRecursion (IsMeant seen (payload_of payloads)) (map (used_of m.sums) ps)
 all_meant m seen payloads [] h i = tt
@@ -145,21 +147,23 @@ once_from_distinct (n ∷ ns) h = (none ns (IsDistinct-head nat_eq n ns h), once
     none [] i = refl
     none (m ∷ ms) i = ap (λ b. b || has n ms) i.0 ∙ none ms i.1
 
+apart_from_once : (n : ℕ) (ks : List ℕ) → has n ks ≡ false → AllByRecursion (λ k. nat_eq n k ≡ false) ks
+apart_from_once n [] e = tt
+apart_from_once n (k ∷ ks) e = step (nat_eq n k) refl e (λ f. apart_from_once n ks f)
+  where
+    step : (b : Bool) → nat_eq n k ≡ b → (b || has n ks) ≡ false → (has n ks ≡ false → AllByRecursion (λ k. nat_eq n k ≡ false) ks) → AllByRecursion (λ k. nat_eq n k ≡ false) (k ∷ ks)
+    step true t f i = cc
+    step false t f i = (t, i f)
+
+distinct_from_once : (ks : List ℕ) → IsOnce ks → IsDistinct nat_eq ks
+distinct_from_once [] i = IsDistinct-from_apart nat_eq [] (λ i j d a b. absurd (omega arith))
+distinct_from_once (k ∷ ks) i = IsDistinct-cons nat_eq k ks (apart_from_once k ks i.0) (distinct_from_once ks i.1)
+
 once-moved : (ns ms : List ℕ) → IsPermutation ns ms → IsOnce ns → IsOnce ms
-once-moved ns ms p h = once_from_distinct ms (IsDistinct-IsPermutation nat_eq flips ns ms p (distinct ns h))
+once-moved ns ms p h = once_from_distinct ms (IsDistinct-IsPermutation nat_eq flips ns ms p (distinct_from_once ns h))
   where
     flips : (x y : ℕ) → nat_eq x y ≡ nat_eq y x
     flips x y = grind (arith, nat_tests)
-    apart : (n : ℕ) (ks : List ℕ) → has n ks ≡ false → AllByRecursion (λ k. nat_eq n k ≡ false) ks
-    apart n [] e = tt
-    apart n (k ∷ ks) e = step (nat_eq n k) refl e (λ f. apart n ks f)
-      where
-        step : (b : Bool) → nat_eq n k ≡ b → (b || has n ks) ≡ false → (has n ks ≡ false → AllByRecursion (λ k. nat_eq n k ≡ false) ks) → AllByRecursion (λ k. nat_eq n k ≡ false) (k ∷ ks)
-        step true t f i = cc
-        step false t f i = (t, i f)
-    distinct : (ks : List ℕ) → IsOnce ks → IsDistinct nat_eq ks
-    distinct [] i = IsDistinct-from_apart nat_eq [] (λ i j d a b. absurd (omega arith))
-    distinct (k ∷ ks) i = IsDistinct-cons nat_eq k ks (apart k ks i.0) (distinct ks i.1)
 
 has-distinct_by : (k : ℕ) (ns : List ℕ) → has k (distinct_by nat_eq ns) ≡ has k ns
 has-distinct_by k [] = refl
@@ -170,9 +174,25 @@ has-distinct_by k (n ∷ ns) =
     kept : (b : Bool) → (b && true) ≡ b
     kept true = refl
     kept false = refl
+
     step : (b : Bool) → nat_eq k n ≡ b → (b || (has k ns && not (nat_eq n k))) ≡ (b || has k ns)
     step true t = refl
     step false t = let other : nat_eq n k ≡ false = grind (arith, nat_tests) in ap (λ b. has k ns && not b) other ∙ kept (has k ns)
+
+once-distinct_by : (ns : List ℕ) → IsOnce (distinct_by nat_eq ns)
+once-distinct_by [] = tt
+once-distinct_by (n ∷ ns) =
+    let self : nat_eq n n ≡ true = grind (arith, nat_tests) in (
+      has-filter n (λ m. not (nat_eq n m)) (distinct_by nat_eq ns) ∙ ap (λ b. has n (distinct_by nat_eq ns) && not b) self ∙ none (has n (distinct_by nat_eq ns)),
+      once-filter (λ m. not (nat_eq n m)) (distinct_by nat_eq ns) (once-distinct_by ns),
+    )
+  where
+    none : (b : Bool) → (b && false) ≡ false
+    none true = refl
+    none false = refl
+
+pub distinct_by-distinct : (ns : List ℕ) → IsDistinct nat_eq (distinct_by nat_eq ns)
+distinct_by-distinct ns = distinct_from_once (distinct_by nat_eq ns) (once-distinct_by ns)
 
 -- the order of the rule
 
@@ -219,11 +239,11 @@ sorted_sparse m seen payloads threshold us h names same sorted =
     let keys : List ℕ = map (λ p. p.0) payloads in
     let meant : AllByRecursion (IsMeant seen payload) (map (used_of m.sums) payloads) = all_meant m seen payloads payloads h (all_given payloads names.once) in
     let ids : map (λ u. u.id) (little_used m.sums payloads threshold) ≡ filter (is_sparse seen payload threshold) keys =
-      little-ids seen payload threshold (map (used_of m.sums) payloads) meant ∙ ap (filter (is_sparse seen payload threshold)) (ids-used m.sums payloads) in
+    little-ids seen payload threshold (map (used_of m.sums) payloads) meant ∙ ap (filter (is_sparse seen payload threshold)) (ids-used m.sums payloads) in
     let moves : IsPermutation (filter (is_sparse seen payload threshold) keys) (map (λ u. u.id) us) =
-      subst (λ ns. IsPermutation ns (map (λ u. u.id) us)) ids (IsPermutation-map (λ (u : Used). u.id) (little_used m.sums payloads threshold) us same) in
+    subst (λ ns. IsPermutation ns (map (λ u. u.id) us)) ids (IsPermutation-map (λ (u : Used). u.id) (little_used m.sums payloads threshold) us same) in
     let full : AllByRecursion (λ c. 1 ≤ payload c) (map (λ u. u.id) us) =
-      moved (λ c. 1 ≤ payload c) (filter (is_sparse seen payload threshold) keys) (map (λ u. u.id) us) moves (filled seen payload threshold keys) in
+    moved (λ c. 1 ≤ payload c) (filter (is_sparse seen payload threshold) keys) (map (λ u. u.id) us) moves (filled seen payload threshold keys) in
     let set : List ℕ = filter (is_sparse seen payload threshold) (set_of (ids_of seen)) in
     ranked_unique (λ c. 1 ≤ payload c) (is_emptier seen payload) (rank seen payload) (map (λ u. u.id) us) (sorted_by (is_emptier seen payload) set)
     full (all-sorted_by (λ c. 1 ≤ payload c) (is_emptier seen payload) set (filled seen payload threshold (set_of (ids_of seen))))
@@ -232,10 +252,10 @@ sorted_sparse m seen payloads threshold us h names same sorted =
     (once-moved (filter (is_sparse seen payload threshold) keys) (map (λ u. u.id) us) moves (once-filter (is_sparse seen payload threshold) keys (once_from_distinct keys names.once)))
     (once-sorted_by (is_emptier seen payload) set (once-filter (is_sparse seen payload threshold) (set_of (ids_of seen)) (once-set_of (ids_of seen))))
     (λ k.
-      sym (list_any-IsPermutation (nat_eq k) (filter (is_sparse seen payload threshold) keys) (map (λ u. u.id) us) moves)
-      ∙ has-filter k (is_sparse seen payload threshold) keys
-      ∙ ap (λ b. b && is_sparse seen payload threshold k) (names.same k ∙ ap (has k) h.ids ∙ has-distinct_by k (ids_of seen) ∙ sym (has-set_of k (ids_of seen)))
-      ∙ sym (has-sorted_by (is_emptier seen payload) k set ∙ has-filter k (is_sparse seen payload threshold) (set_of (ids_of seen))))
+    sym (list_any-IsPermutation (nat_eq k) (filter (is_sparse seen payload threshold) keys) (map (λ u. u.id) us) moves)
+    ∙ has-filter k (is_sparse seen payload threshold) keys
+    ∙ ap (λ b. b && is_sparse seen payload threshold k) (names.same k ∙ ap (has k) h.ids ∙ has-distinct_by k (ids_of seen) ∙ sym (has-set_of k (ids_of seen)))
+    ∙ sym (has-sorted_by (is_emptier seen payload) k set ∙ has-filter k (is_sparse seen payload threshold) (set_of (ids_of seen))))
 
 -- the prefix that is kept
 
@@ -286,12 +306,12 @@ finished m seen payloads threshold limit room us picked ms h names same sorted r
     let all : List ℕ = sparse_ids seen payload threshold in
     let ids : map (λ u. u.id) us ≡ all = sorted_sparse m seen payloads threshold us h names same sorted in
     let meant : AllByRecursion (IsMeant seen payload) us =
-      moved (IsMeant seen payload) (little_used m.sums payloads threshold) us same
-      (all-filter (IsMeant seen payload) (is_little_used threshold) (map (used_of m.sums) payloads) (all_meant m seen payloads payloads h (all_given payloads names.once))) in
+    moved (IsMeant seen payload) (little_used m.sums payloads threshold) us same
+    (all-filter (IsMeant seen payload) (is_little_used threshold) (map (used_of m.sums) payloads) (all_meant m seen payloads payloads h (all_given payloads names.once))) in
     let many : fitting (λ u. u.referenced * 100) room us ≡ fitting (λ c. referenced seen c * 100) (limit * sum_by (λ r. r.len) seen) all =
-      fitting-ids seen room us payload meant ∙ ap (fitting (λ c. referenced seen c * 100) room) ids ∙ ap (λ n. fitting (λ c. referenced seen c * 100) n all) (r ∙ ap (λ n. limit * n) h.total) in
+    fitting-ids seen room us payload meant ∙ ap (fitting (λ c. referenced seen c * 100) room) ids ∙ ap (λ n. fitting (λ c. referenced seen c * 100) n all) (r ∙ ap (λ n. limit * n) h.total) in
     let kept : picked ≡ take (fitting (λ c. referenced seen c * 100) (limit * sum_by (λ r. r.len) seen) all) all =
-      e ∙ sym (take-map (λ (u : Used). u.id) (fitting (λ u. u.referenced * 100) room us) us) ∙ ap (λ n. take n (map (λ u. u.id) us)) many
-      ∙ ap (take (fitting (λ c. referenced seen c * 100) (limit * sum_by (λ r. r.len) seen) all)) ids in
+    e ∙ sym (take-map (λ (u : Used). u.id) (fitting (λ u. u.referenced * 100) room us) us) ∙ ap (λ n. take n (map (λ u. u.id) us)) many
+    ∙ ap (take (fitting (λ c. referenced seen c * 100) (limit * sum_by (λ r. r.len) seen) all)) ids in
     let once : IsOnce all = once-sorted_by (is_emptier seen payload) (filter (is_sparse seen payload threshold) (set_of (ids_of seen))) (once-filter (is_sparse seen payload threshold) (set_of (ids_of seen)) (once-set_of (ids_of seen))) in
     sorted_set picked ms (subst IsOnce (sym kept) (once-take (fitting (λ c. referenced seen c * 100) (limit * sum_by (λ r. r.len) seen) all) all once)) p s ∙ ap set_of kept

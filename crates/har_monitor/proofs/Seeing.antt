@@ -1,5 +1,5 @@
 -- What one row more changes.
-use Rattle.std.proofs.Common.{◌≡◌, ℕ, zero, suc, ◌+◌, ◌*◌, ◌<◌, ◌≤◌, Bool, true, false, cond, not, ◌&&◌, ◌||◌, List, [], ◌∷◌, ◌++◌, map, filter, length, refl, sym, ap, ◌∙◌, subst, arith, append-nil, Option, Some, None, unwrap_or, is_some}
+use Rattle.std.proofs.Common.{◌≡◌, ℕ, ◌+◌, ◌*◌, ◌≤◌, Bool, true, false, cond, not, ◌&&◌, ◌||◌, List, [], ◌∷◌, ◌++◌, filter, length, refl, sym, ap, ◌∙◌, arith, append-nil, Option, Some, None, unwrap_or, is_some}
 use Rattle.std.specs.Prelude.{nat_eq, sum_by, ◌==◌}
 use Rattle.std.specs.List.{list_any, AllByRecursion}
 use Rattle.std.specs.Map.{lookup}
@@ -35,11 +35,12 @@ distinct_by-push same [] x = refl
 distinct_by-push {X} same (y ∷ ys) x =
     ap (λ zs. y ∷ filter (λ z. not (same y z)) zs) (distinct_by-push same ys x)
     ∙ ap (λ zs. y ∷ zs) (filter-append (λ z. not (same y z)) (distinct_by same ys) (unless (list_any (λ z. same z x) ys) x)
-      ∙ ap (λ zs. filter (λ z. not (same y z)) (distinct_by same ys) ++ zs) (step (same y x) refl (list_any (λ z. same z x) ys)))
+    ∙ ap (λ zs. filter (λ z. not (same y z)) (distinct_by same ys) ++ zs) (step (same y x) refl (list_any (λ z. same z x) ys)))
   where
     one : (b : Bool) → same y x ≡ b → filter (λ z. not (same y z)) (x ∷ []) ≡ unless b x
     one true e = ap (λ b. cond (not b) (x ∷ []) []) e
     one false e = ap (λ b. cond (not b) (x ∷ []) []) e
+
     step : (b : Bool) → same y x ≡ b → (c : Bool) → filter (λ z. not (same y z)) (unless c x) ≡ unless (same y x || c) x
     step true e true = sym (ap (λ b. unless (b || true) x) e)
     step true e false = one true e ∙ sym (ap (λ b. unless (b || false) x) e)
@@ -55,9 +56,11 @@ any-filter f c (r ∷ rows) = step (r.id == c) (any-filter f c rows)
     and_true : (b : Bool) → b ≡ (b && true)
     and_true true = refl
     and_true false = refl
+
     and_false : (b : Bool) → (b && false) ≡ false
     and_false true = refl
     and_false false = refl
+
     step : (b : Bool) → list_any (λ q. same_fp q.fp f) (filter (λ q. q.id == c) rows) ≡ refers rows f c
         → list_any (λ q. same_fp q.fp f) (cond b (r ∷ filter (λ q. q.id == c) rows) (filter (λ q. q.id == c) rows)) ≡ ((same_fp r.fp f && b) || refers rows f c)
     step true h = ap (λ b. b || list_any (λ q. same_fp q.fp f) (filter (λ q. q.id == c) rows)) (and_true (same_fp r.fp f)) ∙ ap (λ b. (same_fp r.fp f && true) || b) h
@@ -74,12 +77,14 @@ referenced-push seen r c =
   where
     rows : List Row
     rows = filter (λ q. q.id == c) seen
+
     sums : (xs : List Row) (b : Bool) → sum_by (λ (q : Row). q.len) (xs ++ unless b r) ≡ sum_by (λ (q : Row). q.len) xs + cond b 0 r.len
     sums xs true = ap (sum_by (λ (q : Row). q.len)) (append-nil xs) ∙ omega arith
     sums xs false =
         let e : sum_by (λ (q : Row). q.len) (xs ++ r ∷ []) ≡ sum_by (λ (q : Row). q.len) xs + sum_by (λ (q : Row). q.len) (r ∷ []) = sum_by-append (λ (q : Row). q.len) xs (r ∷ []) in
         let f : sum_by (λ (q : Row). q.len) (r ∷ []) ≡ r.len + sum_by (λ (q : Row). q.len) [] = sum_by-cons (λ (q : Row). q.len) r [] in
         omega arith
+
     step : (b : Bool) → sum_by (λ q. q.len) (distinct_by (λ q p. same_fp q.fp p.fp) (filter (λ q. q.id == c) seen ++ cond b (r ∷ []) [])) ≡ referenced seen c + cond b (cond (refers seen r.fp c) 0 r.len) 0
     step true =
         ap (sum_by (λ (q : Row). q.len)) (distinct_by-push (λ q p. same_fp q.fp p.fp) (filter (λ q. q.id == c) seen) r)
@@ -107,6 +112,7 @@ refers-named f c (r ∷ rows) e = step (nat_eq c r.id) refl e (λ g. refers-name
     and_false : (b : Bool) → (b && false) ≡ false
     and_false true = refl
     and_false false = refl
+
     step : (b : Bool) → nat_eq c r.id ≡ b → ((same_fp r.fp f && (r.id == c)) || refers rows f c) ≡ true → (refers rows f c ≡ true → has c (ids_of rows) ≡ true) → (b || has c (ids_of rows)) ≡ true
     step true t g i = refl
     step false t g i =
@@ -238,6 +244,7 @@ seen-again m n seen r h l e rows total ids pairs sums = record {
   where
     named : has r.id (ids_of seen) ≡ true
     named = refers-named r.fp r.id seen e
+
     same : (f : Fp) (c : ℕ) → (refers seen f c || ((same_fp r.fp f && (r.id == c)) || false)) ≡ refers seen f c
     same f c = step (same_fp r.fp f) (r.id == c) refl refl
       where
@@ -249,12 +256,14 @@ seen-again m n seen r h l e rows total ids pairs sums = record {
             ap (λ b. b || (true || false)) there ∙ sym there
         step true false t u = or_nothing (refers seen f c)
         step false b t u = or_nothing (refers seen f c)
+
     still : (c : ℕ) → has c (ids_of (seen ++ r ∷ [])) ≡ has c (ids_of seen)
     still c = has-push c seen r ∙ step (nat_eq c r.id) refl
       where
         step : (b : Bool) → nat_eq c r.id ≡ b → (has c (ids_of seen) || (b || false)) ≡ has c (ids_of seen)
         step true t = let ids : c ≡ r.id = grind (arith, nat_tests) in or_last (has c (ids_of seen)) ∙ sym (ap (λ k. has k (ids_of seen)) ids ∙ named)
         step false t = or_nothing (has c (ids_of seen))
+
     nothing : (c : ℕ) → referenced (seen ++ r ∷ []) c ≡ referenced seen c
     nothing c =
         let zero_more : more_of seen r c ≡ 0 = step (r.id == c) refl in
@@ -284,14 +293,17 @@ seen-new m n seen r h l e rows total ids pairs sums = record {
     flip true false = refl
     flip false true = refl
     flip false false = refl
+
     listed : (b : Bool) → cond b m.ids (m.ids ++ r.id ∷ []) ≡ distinct_by nat_eq (ids_of seen) ++ unless b r.id
     listed true = h.ids ∙ sym (append-nil (distinct_by nat_eq (ids_of seen)))
     listed false = ap (λ ns. ns ++ r.id ∷ []) h.ids
+
     sum : unwrap_or (lookup (nat_eq r.id) m.sums) 0 + r.len ≡ referenced (seen ++ r ∷ []) r.id
     sum =
         let self : (r.id == r.id) ≡ true = grind (arith, nat_tests) in
         let all : more_of seen r r.id ≡ r.len = ap (λ b. cond {A = ℕ} b (cond (refers seen r.fp r.id) 0 r.len) 0) self ∙ ap (λ b. cond {A = ℕ} b 0 r.len) e in
         ap (λ k. k + r.len) (found-sum m seen r.id h) ∙ sym (referenced-push seen r r.id ∙ ap (λ k. referenced seen r.id + k) all)
+
     each : (c : ℕ) (b : Bool) → nat_eq r.id c ≡ b → cond b (Some (unwrap_or (lookup (nat_eq r.id) m.sums) 0 + r.len)) (lookup (nat_eq c) m.sums) ≡ sum_in (seen ++ r ∷ []) c
     each c true t =
         let same : r.id ≡ c = grind (arith, nat_tests) in

@@ -1,5 +1,5 @@
 -- What a monitor has counted of the rows that it saw.
-use Rattle.std.specs.Prelude.{◌≡◌, ◌≤◌, ℕ, Bool, ◌&&◌, List, map, length, sum_by, nat_eq, ◌==◌, Option, Some, None, unwrap_or, if◌then◌else◌}
+use Rattle.std.specs.Prelude.{◌≡◌, ◌≤◌, ℕ, Bool, ◌&&◌, List, map, length, sum_by, nat_eq, ◌==◌, Some, None, unwrap_or, if◌then◌else◌}
 use Rattle.std.specs.List.{list_any, AllByRecursion, IsDistinct}
 use Rattle.std.specs.Map.{lookup}
 use Rattle.vault_types.specs.declared.Fp.{Fp}

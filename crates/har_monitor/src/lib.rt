@@ -7,6 +7,8 @@ ghost use Rattle.vault_types.specs.declared.Row.{Row as Reference};
 ghost use Rattle.vault_types.specs.Sparse.{sparse};
 ghost use Rattle.har_monitor.specs.Monitor.{HasSeen, NamesEach, payload_of};
 
+#[cfg(test)]
+mod tests;
 mod used;
 
 use crate::used::{add, first_ids, little_used, sort_by_use};
@@ -14,7 +16,6 @@ use std::alloc::Global;
 use std::collections::{HashMap, HashSet};
 use std::marker::Model;
 use vault_types::{Fp, Id, Memory, Row};
-
 
 /// Counts the rows of a version as they pass: how many bytes of each container they refer to, where a
 /// fingerprint counts once in a container, with the length of its first row.

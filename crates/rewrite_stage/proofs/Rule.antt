@@ -1,5 +1,5 @@
 -- What the code tests is what the rule says.
-use Rattle.std.proofs.Common.{◌≡◌, ◌≢◌, ◌<◌, ◌≤◌, ℕ, zero, suc, Bool, true, false, cond, not, ◌||◌, ◌&&◌, List, [], ◌∷◌, ◌++◌, map, length, get_or, refl, sym, ap, ◌∙◌, subst, arith, append-nil, inl, inr, Option, Some, None, Result, Ok, Err}
+use Rattle.std.proofs.Common.{◌≡◌, ◌<◌, ◌≤◌, ℕ, zero, suc, Bool, true, false, cond, ◌||◌, ◌&&◌, List, [], ◌∷◌, ◌++◌, map, length, get_or, refl, sym, ap, ◌∙◌, arith, inl, inr, Option, Some, None, Result, Ok, Err}
 use Rattle.std.specs.Prelude.{nat_eq, is_ok, IfOk, MatchResult}
 use Rattle.std.proofs.lemmas.Bool.{cases_lt}
 use Rattle.std.specs.List.{list_any}
@@ -8,11 +8,11 @@ use Rattle.std.proofs.lemmas.List.Folds.{list_any-append}
 use Rattle.vault_types.specs.declared.Fp.{Fp}
 use Rattle.vault_types.specs.declared.How.{How}
 use Rattle.vault_types.specs.declared.JobConfig.{JobConfig}
-use Rattle.vault_types.specs.declared.How.TheVariants.{Old, Own, Write}
+use Rattle.vault_types.specs.declared.How.TheVariants.{Write}
 use Rattle.vault_types.specs.Lists.{has}
 use Rattle.vault_types.specs.Names.{same_fp}
 use Rattle.vault_types.specs.Capping.{kept_ids}
-use Rattle.vault_types.specs.Decide.{Rules, Looked, how, is_write, is_written, only_if, counted_id, allowed_id, caps, avoids_sparse, decisions_of}
+use Rattle.vault_types.specs.Decide.{Rules, is_write, is_written, only_if, counted_id, allowed_id, caps, decisions_of}
 use Rattle.rewrite_stage.specs.Deciding.{Deciding, HasDecided, looked_with}
 use Rattle.rewrite_stage.specs.Steps.{only_kept, allowed_of, pairs, decide_all}
 use Rattle.rewrite_stage.proofs.Steps.{decisions_in-is, pairs-looked}

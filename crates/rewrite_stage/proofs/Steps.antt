@@ -1,5 +1,5 @@
 -- One chunk more, and the whole of a segment.
-use Rattle.std.proofs.Common.{◌≡◌, ℕ, zero, suc, Bool, true, false, cond, ◌||◌, ◌&&◌, List, [], ◌∷◌, ◌++◌, map, length, get_or, take, ◌+◌, ◌<◌, length-take-le, arith, refl, sym, ap, subst, ◌∙◌, append_assoc, append-nil, Option, Some, None}
+use Rattle.std.proofs.Common.{◌≡◌, ℕ, List, [], ◌∷◌, ◌++◌, map, length, get_or, take, ◌+◌, ◌<◌, length-take-le, arith, refl, sym, ap, subst, ◌∙◌, append_assoc, append-nil, Option, None}
 use Rattle.std.proofs.lemmas.List.{map-append, take_more}
 use Rattle.vault_types.specs.declared.Fp.{Fp}
 use Rattle.vault_types.specs.declared.How.{How}

@@ -1,4 +1,4 @@
-use Rattle.std.proofs.Common.{◌≡◌, ◌*◌, map, take, ap, subst, ◌∙◌}
+use Rattle.std.proofs.Common.{◌*◌, map, take, ap, subst, ◌∙◌}
 use Rattle.std.specs.List.Sorted.{IsPermutation}
 use Rattle.vault_types.specs.Lists.{fitting}
 use Rattle.har_monitor.specs.Used.{little_used}

@@ -1,4 +1,4 @@
-use Rattle.std.proofs.Common.{◌≡◌, map, filter, take, length}
+use Rattle.std.proofs.Common.{◌≡◌, map, filter, take}
 use Rattle.har_monitor.specs.Used.{used_of, is_little_used}
 use Rattle.har_monitor.proofs.used.little_used.Given as goal
 

@@ -1,4 +1,4 @@
-use Rattle.std.proofs.Common.{◌≡◌, ℕ, ◌+◌, get_or, ap, ◌∙◌, None}
+use Rattle.std.proofs.Common.{◌+◌, get_or, ap, ◌∙◌, None}
 use Rattle.vault_types.specs.Names.{fp}
 use Rattle.vault_types.specs.Decide.{counted_id}
 use Rattle.rewrite_stage.proofs.Steps.{counted-more}

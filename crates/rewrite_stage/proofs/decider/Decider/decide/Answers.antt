@@ -1,6 +1,5 @@
-use Rattle.std.proofs.Common.{◌≡◌, ℕ, ◌++◌, ◌∷◌, [], List, length, get_or, map, vec_len, sym, ap, subst, ◌∙◌, None, rules}
+use Rattle.std.proofs.Common.{◌≡◌, ◌++◌, ◌∷◌, [], List, length, get_or, vec_len, sym, ap, subst, ◌∙◌, None, rules}
 use Rattle.std.proofs.lemmas.List.{length-map}
-use Rattle.vault_types.specs.Names.{fp}
 use Rattle.vault_types.specs.Decide.{how, is_written}
 use Rattle.rewrite_stage.specs.declared.Decided.{Decided}
 use Rattle.rewrite_stage.specs.Deciding.{HasDecided}

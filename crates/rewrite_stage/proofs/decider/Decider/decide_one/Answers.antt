@@ -1,4 +1,4 @@
-use Rattle.std.proofs.Common.{◌∙◌, sym, ap, cond, true}
+use Rattle.std.proofs.Common.{◌∙◌, ap, cond, true}
 use Rattle.std.specs.List.{list_any}
 use Rattle.vault_types.specs.Names.{same_fp}
 use Rattle.rewrite_stage.proofs.Rule.{decided-write}

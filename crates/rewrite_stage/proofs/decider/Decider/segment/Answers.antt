@@ -1,4 +1,4 @@
-use Rattle.std.proofs.Common.{◌≡◌, ◌++◌, map, IfOk, sym, ap, subst, ◌∙◌}
+use Rattle.std.proofs.Common.{◌≡◌, ◌++◌, map, IfOk, ap, subst, ◌∙◌}
 use Rattle.vault_types.specs.Names.{fp}
 use Rattle.vault_types.specs.Decide.{decisions_of}
 use Rattle.fp_index.specs.Index.{found_in}

@@ -1,4 +1,4 @@
-use Rattle.std.proofs.Common.{◌≡◌, ◌++◌, map, IfOk, sym, ap, subst, ◌∙◌}
+use Rattle.std.proofs.Common.{◌≡◌, ◌++◌, map, ap, ◌∙◌}
 use Rattle.vault_types.specs.Decide.{counted_id, decisions_of}
 use Rattle.rewrite_stage.specs.Deciding.{looked_with, places_of}
 use Rattle.rewrite_stage.specs.Steps.{pairs, decide_all}

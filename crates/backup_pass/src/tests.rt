@@ -23,11 +23,12 @@ fn a_stream_becomes_a_container_and_rows(rt: HostRuntime) -> Result<(), Fail> {
     pass.feed(alloc, b"abcda", &mut out)?;
     pass.feed(alloc, b"bcdab", &mut out)?;
     let passed = pass.finish(alloc, &mut out)?;
+    let filled = passed.filled;
     assert_eq!(rt; out.len(), 0);
-    assert_eq!(rt; passed.filled.rows.as_slice().len(), 3);
-    assert_eq!(rt; passed.filled.containers, 1);
-    assert_eq!(rt; passed.filled.written, 6);
-    let last = passed.filled.last.ok_or("no container")?;
+    assert_eq!(rt; filled.rows.as_slice().len(), 3);
+    assert_eq!(rt; filled.containers, 1);
+    assert_eq!(rt; filled.written, 6);
+    let last = filled.last.ok_or("no container")?;
     assert_eq!(rt; last.payload(), b"abcdab".as_slice());
     Ok(())
 }

@@ -3,3 +3,4 @@ pub mod Changing
 pub mod Cleaning
 pub mod Growing
 pub mod Beginning
+pub mod Telling

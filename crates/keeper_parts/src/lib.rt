@@ -3,7 +3,7 @@
 //! that the shelf may hold, and what a crash at any moment of it leaves.
 #![tactic(auto)]
 
-ghost use Rattle.std.specs.Prelude.{◌≡◌, ◌⊎◌, ◌≤◌, ◌<◌, ◌+◌, ◌-◌, ◌^◌, OnOk, IfOk, IfSome, Option, Some, None, Err, length, Contains, vec_capacity, ℕ, List};
+ghost use Rattle.std.specs.Prelude.{◌≡◌, ◌⊎◌, ◌≤◌, ◌<◌, ◌+◌, ◌-◌, ◌^◌, OnOk, IfOk, IsSome, IfSome, Option, Some, None, Err, length, Contains, vec_capacity, ℕ, List};
 ghost use Rattle.vault_types.specs.declared.Name.{Name as Named};
 ghost use Rattle.vault_types.specs.State.{State};
 ghost use Rattle.vault_types.specs.Blobs.{floor_bytes, table_bytes, IsVersion};
@@ -33,6 +33,7 @@ fn recipe_at(set: Set, version: Version) -> Name
 /// Puts a container: its payload and then its table. `StoreFault`, `Memory`.
 pub fn put_container<S: Shelf>(alloc: Global, shelf: &mut S, sealed: &Sealed) -> Result<(), Fault>
     ensures there { OnOk result (IfSome (S.told shelf.new).blobs (λ m. HasContainer m sealed.now)) }
+    ensures tells { IsSome (S.told shelf.old).blobs → IsSome (S.told shelf.new).blobs }
     ensures held { (K : Core) → IsSpare K (payload_name sealed.now.table.id) sealed.now.payload → IsSpare K (table_name sealed.now.table.id) (Some (table_bytes sealed.now.table))
         → HeldIfTold (S.told shelf.old).blobs K → HeldIfTold (S.told shelf.new).blobs K }
 
@@ -57,6 +58,7 @@ pub fn mend<S: Shelf>(
 ) -> Result<(), Fault>
     requires { IsVersion floor }
     ensures held { (K : Core) → Mends K set version floor → HeldIfTold (S.told shelf.old).blobs K → HeldIfTold (S.told shelf.new).blobs K }
+    ensures tells { IsSome (S.told shelf.old).blobs → IsSome (S.told shelf.new).blobs }
     ensures mended { OnOk result ((K : Core) → Mends K set version floor → HeldIfTold (S.told shelf.old).blobs K → HeldIfTold (S.told shelf.new).blobs (without_other K)) }
 
     // A crash at any moment leaves one of the two states; behind an `Ok` only the one, whatever could be left before.

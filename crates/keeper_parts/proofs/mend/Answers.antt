@@ -4,6 +4,7 @@ use Rattle.vault_types.specs.Events.{IsNear, Held}
 use Rattle.vault_traits.proofs.Moments.{then, ends, may_write, stays}
 use Rattle.keeper_parts.specs.Parts.{without_other}
 use Rattle.keeper_parts.proofs.Changing.{settle_moment, settle_leaves, told_same, told_may, told_more, told_mended, recipe_near, floor_near, recipe_held, floor_held, done_of, failed_of}
+use Rattle.keeper_parts.proofs.Telling.{tells_may, tells_same}
 use Rattle.keeper_parts.proofs.mend.Goals as goal
 
 pub returns-then-is_err-clause-held : goal.returns-then-is_err-clause-held
@@ -59,3 +60,15 @@ returns-clause-acknowledged g c K mends held =
     settle_leaves (IsNear K.state None) _ _ _ (g.met.S.Shelf.reads_an_image c.put_floor.new.shelf) (done_of c.settle.result (sym c.is_err-2.ensures.value ∙ c.if-is_err-2.false) c.settle.ensures.ok)
     (told_more (λ m. Held m (without_other K)) (IsNear K.state None) _ (λ m held. held.near)
     (told_mended K _ _ _ mends _ refl _ _ _ (done_of c.remove_recipe.result (sym c.is_err.ensures.value ∙ c.if-is_err.false) c.remove_recipe.ensures.ok).blobs c.in_ok-put_floor.ensures.ok.blobs held))
+
+pub returns-then-is_err-clause-tells : goal.returns-then-is_err-clause-tells
+returns-then-is_err-clause-tells g c tells = tells_may c.remove_recipe.ensures.at_most tells
+
+pub returns-in_err-put_floor-clause-tells : goal.returns-in_err-put_floor-clause-tells
+returns-in_err-put_floor-clause-tells g c tells = tells_may c.put_floor.ensures.at_most (tells_may c.remove_recipe.ensures.at_most tells)
+
+pub returns-then-is_err-2-clause-tells : goal.returns-then-is_err-2-clause-tells
+returns-then-is_err-2-clause-tells g c tells = tells_same _ _ c.settle.ensures.blobs (tells_may c.put_floor.ensures.at_most (tells_may c.remove_recipe.ensures.at_most tells))
+
+pub returns-clause-tells : goal.returns-clause-tells
+returns-clause-tells g c tells = tells_same _ _ c.settle.ensures.blobs (tells_may c.put_floor.ensures.at_most (tells_may c.remove_recipe.ensures.at_most tells))

@@ -1,6 +1,7 @@
 use Rattle.std.proofs.Common.{◌≡◌, ◌∙◌, ap, Some, ℕ, List}
 use Rattle.vault_types.specs.Events.{Held, IsNear}
 use Rattle.keeper_parts.proofs.Standing.{put_there, put_held, put_moment}
+use Rattle.keeper_parts.proofs.Telling.{tells_in_turn}
 use Rattle.keeper_parts.proofs.put_container.Goals as goal
 
 pub returns-clause-there : goal.returns-clause-there
@@ -11,3 +12,6 @@ returns-clause-held g c K one two held = put_held _ _ (c.payload-payload.ensures
 
 pub returns-clause-any_moment : goal.returns-clause-any_moment
 returns-clause-any_moment g c K one two here = put_moment _ _ (c.payload-payload.ensures.there ∙ ap (λ (p : List ℕ). Some p) c.payload-payload.ensures.is) _ _ _ _ K one two c.put.ensures.at_most here
+
+pub returns-clause-tells : goal.returns-clause-tells
+returns-clause-tells g c tells = tells_in_turn _ _ _ _ _ _ _ _ c.put.ensures.at_most tells

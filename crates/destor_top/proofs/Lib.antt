@@ -1,0 +1,5 @@
+pub mod Ranges
+pub mod Completes
+pub mod Written
+pub mod Listed
+pub mod Runs

@@ -1,0 +1,6 @@
+use Rattle.std.proofs.Common.{◌∙◌, ap}
+use Rattle.vault_types.specs.Lists.{greatest}
+use Rattle.first_backup.proofs.begin.Goals as goal
+
+pub returns-clause-answers : goal.returns-clause-answers
+returns-clause-answers c = c.new-2.ensures.answers ∙ (λ i f. ap greatest (c.in_ok-index.ensures.ids f) i)

@@ -1,0 +1,75 @@
+// The stream is read piece by piece, and each goes through the pass.
+ghost use Rattle.std.specs.Prelude.{◌≡◌, ◌<◌, ◌≤◌, List, ℕ, OnOk, IfOk, IfErr, map, length, [], ◌∷◌, ◌++◌};
+ghost use Rattle.first_backup.specs.Going.{Begun, IsFed, IsHalted, IsTooMany, IsGoing, IsAtEnd, HasGone, IsStopped};
+
+use crate::putting::put_all;
+use backup_pass::Pass;
+use std::alloc::Global;
+use vault_traits::{Failed, Shelf, Source};
+use vault_types::Fault;
+
+// Feeds a piece, and puts the containers that it fills.
+fn feed<S: Shelf>(
+    alloc: Global,
+    shelf: &mut S,
+    pass: &mut Pass,
+    lens: &mut Vec<u32>,
+    piece: &[u8],
+) -> Result<(), Fault>
+    ensures ok { (b : Begun) (read : List ℕ) → IsFed b (S.told shelf.old) pass.old lens.old.items read
+        → OnOk result (IsFed b (S.told shelf.new) pass.new lens.new.items (read ++ piece.now)) }
+    ensures err { (b : Begun) (read : List ℕ) → IsFed b (S.told shelf.old) pass.old lens.old.items read
+        → IfErr result (IsHalted b (S.told shelf.new) (IsTooMany b (read ++ piece.now))) }
+{
+    let mut full = Vec::new(alloc);
+    pass.feed(alloc, piece, &mut full)?;
+    put_all(alloc, shelf, full, lens)
+}
+
+// Reads a piece, which has room for at least one byte, and feeds it. None is the end.
+fn advance<S: Shelf, I: Source>(
+    alloc: Global,
+    shelf: &mut S,
+    source: &mut I,
+    pass: &mut Pass,
+    lens: &mut Vec<u32>,
+    piece: &mut [u8],
+) -> Result<usize, Fault>
+    requires { 0 < length piece.old }
+    ensures room { length piece.new ≡ length piece.old }
+    ensures ok { (b : Begun) (read : List ℕ) → IsGoing b (S.told shelf.old) (I.told source.old) pass.old lens.old.items read
+        → IfOk result (HasGone b (S.told shelf.new) (I.told source.new) pass.new lens.new.items read) }
+    ensures err { (b : Begun) (read : List ℕ) → IsGoing b (S.told shelf.old) (I.told source.old) pass.old lens.old.items read
+        → IfErr result (IsStopped b (S.told shelf.new) (I.told source.new)) }
+{
+    let n = match source.read(piece) {
+        Ok(n) => n,
+        Err(Failed) => return Err(Fault::ReadFault(source.faults())),
+    };
+    feed(alloc, shelf, pass, lens, &piece[..n])?;
+    Ok(n)
+}
+
+// Reads to the end.
+pub(crate) fn read_all<S: Shelf, I: Source>(
+    alloc: Global,
+    shelf: &mut S,
+    source: &mut I,
+    pass: &mut Pass,
+    lens: &mut Vec<u32>,
+) -> Result<(), Fault>
+    ensures ok { (b : Begun) → IsGoing b (S.told shelf.old) (I.told source.old) pass.old lens.old.items []
+        → OnOk result ((read : List ℕ) × IsGoing b (S.told shelf.new) (I.told source.new) pass.new lens.new.items read × IsAtEnd (I.told source.new)) }
+    ensures err { (b : Begun) → IsGoing b (S.told shelf.old) (I.told source.old) pass.old lens.old.items []
+        → IfErr result (IsStopped b (S.told shelf.new) (I.told source.new)) }
+{
+    let mut room = Vec::with_capacity(alloc, 65_536)?;
+    room.resize(65_536, 0)?;
+    let piece = room.as_mut_slice();
+    for _turn in 0..u64::MAX {
+        if advance(alloc, shelf, source, pass, lens, piece)? == 0 {
+            return Ok(());
+        }
+    }
+    Err(Fault::Memory)
+}

@@ -22,7 +22,7 @@ use Rattle.vault_types.specs.Backup.{stored}
 use Rattle.vault_types.proofs.PartsLemmas.{IsStable, parts-append}
 use Rattle.vault_traits.specs.Counts.{Rose}
 use Rattle.vault_traits.specs.Told.{ShelfTold, SourceTold, SinkTold}
-use Rattle.first_backup.specs.Backup.{nothing, IsNumber, IsBare, IsCuttingInRange, IsInRange, IsBackupFault, BacksUp}
+use Rattle.first_backup.specs.Backup.{nothing, IsNumber, IsBare, IsInRange, IsBackupFault, BacksUp}
 use Rattle.destor_top.specs.World.{World, IsPrinted, report_text}
 use Rattle.destor_top.specs.Run.{with_cutting, backup_in, backup_of, answer_of, IsOpeningFault, IsEarlyFault, EndsEarly, RunsBackup, IsRun, NoneRose, IsComplete}
 use Rattle.destor_top.proofs.Ranges.{asked_in_range}
@@ -153,43 +153,17 @@ module _ (words : List (List ℕ)) (before now : World) (b : ℕ × JobConfig) (
   early answers None e = absurd e
   early answers (Some f) e = (e.none, ap Some (early_memory f e.why))
 
--- a backup that is asked for cuts by size
-by_cutting : (c : Cutting) (s : ℕ) (config : JobConfig) (b : ℕ × JobConfig) → config.cutting ≡ c → with_cutting c s config ≡ Some b → (size : ℕ) × (b.1.cutting ≡ Fixed size)
-by_cutting (Fixed size) s config b is e =
-    let same : (s, config) ≡ b = cc in (size, sym (ap (λ (p : ℕ × JobConfig). p.1.cutting) same) ∙ is)
-by_cutting (Ae window max) s config b is e = let clash : ◌≡◌ {A = Option (ℕ × JobConfig)} None (Some b) = e in cc
-
-by_command : (c : Command) (b : ℕ × JobConfig) → backup_in c ≡ Some b → (size : ℕ) × (b.1.cutting ≡ Fixed size)
-by_command (command.Backup s config queue lanes None) b e = by_cutting config.cutting s config b refl e
-by_command (command.Backup s config queue lanes (Some p)) b e = let clash : ◌≡◌ {A = Option (ℕ × JobConfig)} None (Some b) = e in cc
-by_command (command.Restore s v cache area) b e = let clash : ◌≡◌ {A = Option (ℕ × JobConfig)} None (Some b) = e in cc
-by_command (command.Delete s n) b e = let clash : ◌≡◌ {A = Option (ℕ × JobConfig)} None (Some b) = e in cc
-by_command (command.Show s v) b e = let clash : ◌≡◌ {A = Option (ℕ × JobConfig)} None (Some b) = e in cc
-by_command (command.Batch queue lanes workers) b e = let clash : ◌≡◌ {A = Option (ℕ × JobConfig)} None (Some b) = e in cc
-by_command (command.Fill seed versions queue lanes workers) b e = let clash : ◌≡◌ {A = Option (ℕ × JobConfig)} None (Some b) = e in cc
-by_command command.Migrate b e = let clash : ◌≡◌ {A = Option (ℕ × JobConfig)} None (Some b) = e in cc
-by_command (command.Scrub workers) b e = let clash : ◌≡◌ {A = Option (ℕ × JobConfig)} None (Some b) = e in cc
-
-asked_by_size : (o : Option Command) (b : ℕ × JobConfig) → option_and_then backup_in o ≡ Some b → (size : ℕ) × (b.1.cutting ≡ Fixed size)
-asked_by_size None b e = let clash : ◌≡◌ {A = Option (ℕ × JobConfig)} None (Some b) = e in cc
-asked_by_size (Some c) b e = by_command c b e
-
-is_positive : (c : Cutting) (size : ℕ) → c ≡ Fixed size → IsCuttingInRange c → 1 ≤ size
-is_positive c size is h = let r : IsCuttingInRange (Fixed size) = subst IsCuttingInRange is h in r.0
-
 module _ (words : List (List ℕ)) (limits : Limits) (before now : World) (answers : List Answer) (f : Option Fault) where
   ran : (s : ℕ) (config : JobConfig) (x : List ℕ) → backup_of words ≡ Some (s, config) → before.input.left ≡ Some x → NoneRose before now → length (cuts x config.cutting) ≤ limits.chunks → RunsBackup s config limits before now answers f
       → ((answers ≡ stored nothing s x config ∷ []) × (f ≡ None)) ⊎ (answers ≡ Refused fault.Memory ∷ [])
   ran s config x asks left well few r =
-      let size = asked_by_size (command_of words) (s, config) asks in
       let range : IsInRange config = asked_in_range words (s, config) asks in
-      let positive : 1 ≤ size.0 = is_positive config.cutting size.0 size.1 range.cutting in
       let shelf : (n : ℕ) → IsNumber r.shelf.faults n now.shelf.faults → ⊥ = λ n. no_number r.shelf.faults now.shelf.faults before.shelf.faults n r.opened.later well.shelf well.shelf_below in
       let source : (n : ℕ) → IsNumber before.input.faults n now.input.faults → ⊥ = λ n. no_number before.input.faults now.input.faults before.input.faults n (omega arith) well.input well.input_below in
       ⊎_elim
       (λ e. inl (r.answered ∙ ap (λ (a : Answer). a ∷ []) e, all_printed (report_text answers) before.out now.out f well.out_below well.out r.printed))
       (λ e. inr (r.answered ∙ ap (λ (a : Answer). a ∷ []) e))
-      (answered s size.0 positive config size.1 limits x few r.shelf now.shelf before.input now.input r.result left shelf source r.backs_up)
+      (answered s range.cutting.size range.cutting.low config range.cutting.is limits x few r.shelf now.shelf before.input now.input r.result left shelf source r.backs_up)
 
   pub completes : (status : ℕ) → IsRun words limits before now answers f status → IsComplete words limits before now answers f
   completes status run s config x asks bare left well few =

@@ -77,7 +77,7 @@ module _ (s : Settings) (each : list_all (allows backup_kinds) s ≡ true) where
   container_within = settings_within backup_kinds s (codes "container") 1 4194304 4194304 refl (omega arith, omega arith) each
 
   fixed_in_range : is_word s (codes "chunk") (codes "fixed") ≡ true → IsInRange (config_in s)
-  fixed_in_range e = record { cutting = rw e size_within; container_low = container_within.0; container_high = container_within.1 }
+  fixed_in_range e = record { cutting = rw e (record { size = number_in s (codes "size") 4096; is = refl; low = size_within.0; high = size_within.1 }); container_low = container_within.0; container_high = container_within.1 }
 
 -- no backup, and so nothing to show
 abbrev Asked : Option Command → ℕ × JobConfig → Type 0

@@ -161,13 +161,3 @@ module _ (b : Begun) (before now : ShelfTold) (from to : SourceTold) (old : Pass
     underway = halted.underway;
     cause = ⊎_elim (put_is_cause b now from read f) (all_is_cause b now from read f end) halted.cause;
   }
-
-  pub memory_stops : IsStopped b before from fault.Memory
-  memory_stops = record {
-    read = read;
-    given = h.given;
-    source_later = h.source_later;
-    containers = h.fed.containers;
-    underway = h.fed.underway;
-    cause = tt;
-  }

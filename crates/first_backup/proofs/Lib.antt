@@ -8,3 +8,4 @@ pub mod Concluding
 pub mod Ends
 pub mod Closes
 pub mod Begins
+pub mod Limits

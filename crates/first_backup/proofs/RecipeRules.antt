@@ -138,10 +138,10 @@ no_rows_no_bytes config x e =
 
 -- chunks of a fixed size have 1 to 65,536 bytes
 
-abbrev AreChunks : List (List ℕ) → Type 0
+abbrev pub AreChunks : List (List ℕ) → Type 0
 AreChunks ys = AllByRecursion (λ y. is_chunk y ≡ true) ys
 
-chunk_sizes : (y : List ℕ) → is_chunk y ≡ true → (1 ≤ length y) × (length y ≤ 65536)
+pub chunk_sizes : (y : List ℕ) → is_chunk y ≡ true → (1 ≤ length y) × (length y ≤ 65536)
 chunk_sizes y h = step (nat_lt 0 (length y)) (nat_le (length y) 65536) refl refl h
   where
     step : (a b : Bool) → nat_lt 0 (length y) ≡ a → nat_le (length y) 65536 ≡ b → (a && b) ≡ true → (1 ≤ length y) × (length y ≤ 65536)
@@ -161,7 +161,7 @@ chunks_append : (xs ys : List (List ℕ)) → AreChunks xs → AreChunks ys → 
 chunks_append [] ys h i = i
 chunks_append (x ∷ xs) ys h i = (h.0, chunks_append xs ys h.1 i)
 
-cuts_are_chunks : (c : Cutting) → IsSized c → (x : List ℕ) → AreChunks (cuts x c)
+pub cuts_are_chunks : (c : Cutting) → IsSized c → (x : List ℕ) → AreChunks (cuts x c)
 cuts_are_chunks c h x =
     chunks_append (settled x c) (only_bytes (unsettled x c))
     (subst AreChunks (settled_chunks c h x) (chunks_pass (settled x c)))

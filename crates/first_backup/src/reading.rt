@@ -58,6 +58,7 @@ pub(crate) fn read_all<S: Shelf, I: Source>(
     pass: &mut Pass,
     lens: &mut Vec<u32>,
 ) -> Result<(), Fault>
+    requires { (b : Begun) × IsGoing b (S.told shelf.old) (I.told source.old) pass.old lens.old.items [] }
     ensures ok { (b : Begun) → IsGoing b (S.told shelf.old) (I.told source.old) pass.old lens.old.items []
         → OnOk result ((read : List ℕ) × IsGoing b (S.told shelf.new) (I.told source.new) pass.new lens.new.items read × IsAtEnd (I.told source.new)) }
     ensures err { (b : Begun) → IsGoing b (S.told shelf.old) (I.told source.old) pass.old lens.old.items []
@@ -71,5 +72,6 @@ pub(crate) fn read_all<S: Shelf, I: Source>(
             return Ok(());
         }
     }
-    Err(Fault::Memory)
+    // the limit of chunks comes first
+    unreachable!()
 }

@@ -19,6 +19,12 @@ returns-in_err-pass g c =
     let under = mended b (omega (arith, c.ranges.set.fits)) (g.S.Shelf.told c.mend.new.shelf) c.mend.ensures.held c.mend.ensures.any_moment c.mend.ensures.tells c.mend.ensures.gets c.mend.ensures.causes.later in
     stopped_backs_up b (g.S.Shelf.told c.mend.new.shelf) (g.I.Source.told c.args.source.now) fault.Memory (memory_first b (g.S.Shelf.told c.mend.new.shelf) under) c.from_residual-in_err-pass.result c.from_residual-in_err-pass.ensures.1
 
+pub read_all-requires : goal.read_all-requires
+read_all-requires g c =
+    let b : Begun = record { set = c.args.set; config = c.args.config.now; limits = c.args.limits.now; shelf = g.S.Shelf.told c.args.shelf.now; source = g.I.Source.told c.args.source.now } in
+    let under = mended b (omega (arith, c.ranges.set.fits)) (g.S.Shelf.told c.mend.new.shelf) c.mend.ensures.held c.mend.ensures.any_moment c.mend.ensures.tells c.mend.ensures.gets c.mend.ensures.causes.later in
+    (b, goes_first b (g.S.Shelf.told c.mend.new.shelf) c.in_ok-pass.pass c.new-lens.result.items c.requires.high under c.in_ok-pass.ensures.passed c.in_ok-pass.ensures.answers c.new-lens.ensures.items)
+
 pub returns-in_err-read_all : goal.returns-in_err-read_all
 returns-in_err-read_all g c =
     let b : Begun = record { set = c.args.set; config = c.args.config.now; limits = c.args.limits.now; shelf = g.S.Shelf.told c.args.shelf.now; source = g.I.Source.told c.args.source.now } in

@@ -1,7 +1,7 @@
-use Rattle.std.proofs.Common.{◌∙◌, ◌++◌, arith}
+use Rattle.std.proofs.Common.{◌∙◌, ◌++◌, arith, length-append, ◌*◌, length, ◌≤◌}
 use Rattle.first_backup.specs.Going.{IsStopped}
 use Rattle.first_backup.proofs.Jobs.{stopped_again}
-use Rattle.first_backup.proofs.Feeding.{memory_stops}
+use Rattle.first_backup.proofs.Limits.{goes_within}
 use Rattle.first_backup.proofs.reading.read_all.Goals as goal
 
 pub returns-in_err-advance-clause-err : goal.returns-in_err-advance-clause-err
@@ -21,10 +21,11 @@ loop-turn-preserved g c = record {
   room = c.in_ok-advance.ensures.room ∙ c.loop-turn.invariant.room;
   going = λ b start. let h = c.loop-turn.invariant.going b start in
       let gone = c.in_ok-advance.ensures.ok b h.0 h.1 in
-      (h.0 ++ gone.piece, gone.going);
+      (h.0 ++ gone.piece, gone.going, omega (arith, h.2, c.if-branch-eq0.false, gone.len, length-append h.0 gone.piece));
 }
 
-pub returns-clause-err : goal.returns-clause-err
-returns-clause-err g c b start =
-    let h = c.loop-turn.invariant.going b start in
-    memory_stops b _ (g.S.Shelf.told c.loop-turn.shelf) _ (g.I.Source.told c.loop-turn.source) _ _ h.0 h.1
+pub unreachable-requires : goal.unreachable-requires
+unreachable-requires g c =
+    let h = c.loop-turn.invariant.going c.requires.0 c.requires.1 in
+    let all : length h.0 ≤ 65536 * 4194305 = goes_within c.requires.0 _ _ _ _ h.0 h.1 in
+    omega (arith, h.2, c.loop-turn-test.false, all)

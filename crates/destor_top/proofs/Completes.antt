@@ -1,16 +1,13 @@
 -- Where nothing failed, a run does what the words ask, or there was no memory.
 use Rattle.std.proofs.Common.{◌≡◌, ◌⊎◌, inl, inr, ⊎_elim, ◌≤◌, ◌<◌, ◌+◌, ◌-◌, ◌^◌, ◌++◌, ℕ, Bool, true, false, cond, nat_le, List, [], ◌∷◌, length, length-append, Option, Some, None, Ok, Err, refl, sym, ap, subst, arith, ◌∙◌}
-use Rattle.std.specs.Prelude.{Result, IsSome, IfSome, IsSomeAnd, IfOk, IfErr, max, min}
-use Rattle.std.specs.Option.{option_map, option_and_then}
+use Rattle.std.specs.Prelude.{Result, IfSome, IsSomeAnd}
+use Rattle.std.specs.Option.{option_map}
 use Rattle.std.proofs.lemmas.Bool.Decides.{nat_tests}
 use Rattle.std.proofs.lemmas.List.{append-nil}
 use Rattle.vault_types.specs.declared.Cutting.{Cutting}
-use Rattle.vault_types.specs.declared.Cutting.TheVariants.{Fixed, Ae}
+use Rattle.vault_types.specs.declared.Cutting.TheVariants.{Fixed}
 use Rattle.vault_types.specs.declared.JobConfig.{JobConfig}
 use Rattle.vault_types.specs.declared.Limits.{Limits}
-use Rattle.vault_types.specs.declared.Command.{Command}
-use Rattle.vault_types.specs.declared.Command.TheVariants as command
-use Rattle.vault_types.specs.Words.{command_of}
 use Rattle.vault_types.specs.declared.Fault.{Fault}
 use Rattle.vault_types.specs.declared.Fault.TheVariants as fault
 use Rattle.vault_types.specs.declared.Answer.{Answer}
@@ -24,7 +21,7 @@ use Rattle.vault_traits.specs.Counts.{Rose}
 use Rattle.vault_traits.specs.Told.{ShelfTold, SourceTold, SinkTold}
 use Rattle.first_backup.specs.Backup.{nothing, IsNumber, IsBare, IsInRange, IsBackupFault, BacksUp}
 use Rattle.destor_top.specs.World.{World, IsPrinted, report_text}
-use Rattle.destor_top.specs.Run.{with_cutting, backup_in, backup_of, answer_of, IsOpeningFault, IsEarlyFault, EndsEarly, RunsBackup, IsRun, NoneRose, IsComplete}
+use Rattle.destor_top.specs.Run.{backup_of, answer_of, IsEarlyFault, EndsEarly, RunsBackup, IsRun, NoneRose, IsComplete}
 use Rattle.destor_top.proofs.Ranges.{asked_in_range}
 
 -- chunks of a fixed size

@@ -1,5 +1,5 @@
 -- The settings of a backup that words ask for are in their ranges.
-use Rattle.std.proofs.Common.{◌≡◌, ◌≤◌, ℕ, Bool, true, false, not, cond, ◌&&◌, ◌||◌, ◌++◌, nat_le, List, [], ◌∷◌, Option, Some, None, unwrap_or, codes, inl, inr, refl, ap, sym, subst, arith, ◌∙◌, ⊎_elim}
+use Rattle.std.proofs.Common.{◌≡◌, ◌≤◌, ℕ, Bool, true, false, not, cond, ◌&&◌, ◌||◌, ◌++◌, nat_le, List, [], ◌∷◌, Option, Some, None, unwrap_or, codes, inl, inr, refl, ap, sym, subst, arith, ◌∙◌}
 use Rattle.std.specs.List.{list_all, list_any}
 use Rattle.std.specs.Str.{bytes_eq}
 use Rattle.std.specs.Option.{option_and_then}
@@ -8,7 +8,7 @@ use Rattle.std.proofs.lemmas.Bool.{and_parts, or_cases, cases_Bool, leb-true, fa
 use Rattle.vault_types.specs.declared.JobConfig.{JobConfig}
 use Rattle.vault_types.specs.declared.Command.{Command}
 use Rattle.vault_types.specs.declared.Cutting.TheVariants.{Fixed, Ae}
-use Rattle.vault_types.specs.Words.{Allowed, Number, Word, Kinds, Settings, number, number_in, in_range, is_allowed, is_value, allows, are_allowed, names_differ, set_kind, job_kinds, queue_kinds, sample_kinds, version_kind, cache_kind, area_kind, workers_kind, job_agrees, sample_agrees, sample_in, set_in, queue_in, lanes_in, config_in, is_word, checked, always, has_value, area_agrees, backup_command, restore_command, delete_command, show_command, batch_command, fill_command, scrub_command, command_with, command_of, settings_of}
+use Rattle.vault_types.specs.Words.{Allowed, Number, Word, Kinds, Settings, number, number_in, in_range, is_allowed, is_value, allows, are_allowed, names_differ, set_kind, job_kinds, queue_kinds, sample_kinds, version_kind, cache_kind, area_kind, workers_kind, job_agrees, sample_agrees, sample_in, set_in, queue_in, lanes_in, config_in, is_word, always, has_value, area_agrees, backup_command, restore_command, delete_command, show_command, batch_command, fill_command, scrub_command, command_with, settings_of}
 use Rattle.vault_types.specs.declared.Command.TheVariants as command
 use Rattle.first_backup.specs.Backup.{IsInRange}
 use Rattle.destor_top.specs.Run.{with_cutting, backup_in, backup_of}

@@ -1,12 +1,12 @@
 -- A run from its parts.
-use Rattle.std.proofs.Common.{◌≡◌, ◌⊎◌, inl, inr, ◌≤◌, ℕ, List, [], Option, Some, None, refl, sym, ap, subst, arith, ◌∙◌, ⊎_elim}
+use Rattle.std.proofs.Common.{◌≡◌, ◌⊎◌, inl, inr, ℕ, List, [], Option, Some, None, refl, sym, ap, subst, arith, ◌∙◌, ⊎_elim}
 use Rattle.std.specs.Prelude.{IsSome, IsSomeAnd, IfSome}
 use Rattle.vault_types.specs.declared.JobConfig.{JobConfig}
 use Rattle.vault_types.specs.declared.Limits.{Limits}
 use Rattle.vault_types.specs.declared.Fault.{Fault}
 use Rattle.vault_types.specs.declared.Fault.TheVariants as fault
 use Rattle.vault_types.specs.declared.Answer.{Answer}
-use Rattle.vault_traits.specs.Told.{ShelfTold, SinkTold}
+use Rattle.vault_traits.specs.Told.{ShelfTold}
 use Rattle.first_backup.specs.Backup.{IsBare}
 use Rattle.destor_top.specs.World.{World, IsTold, status_after}
 use Rattle.destor_top.specs.Run.{backup_of, IsSameBut, IsOpeningFault, IsEarlyFault, EndsEarly, RunsBackup, RanLine, IsRun, IsComplete}

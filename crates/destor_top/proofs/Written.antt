@@ -1,6 +1,6 @@
 -- What was written of a line.
-use Rattle.std.proofs.Common.{◌≡◌, ◌⊎◌, inl, inr, ◌≤◌, ◌+◌, ◌-◌, ◌++◌, length, length-drop, ℕ, List, [], ◌∷◌, take, drop, append_assoc, Option, Some, None, Ok, Err, refl, sym, ap, subst, arith, ◌∙◌}
-use Rattle.std.specs.Prelude.{Result, OnOk, OnErr, max, min}
+use Rattle.std.proofs.Common.{◌≡◌, inl, inr, ◌≤◌, ◌+◌, ◌-◌, ◌++◌, length, length-drop, ℕ, List, [], ◌∷◌, take, drop, append_assoc, Option, Some, None, Ok, Err, refl, sym, ap, subst, arith, ◌∙◌}
+use Rattle.std.specs.Prelude.{Result, OnOk, OnErr}
 use Rattle.std.specs.Option.{option_map}
 use Rattle.std.proofs.Math.Seq.{take-add}
 use Rattle.std.proofs.lemmas.List.{append-nil, take-append-drop, take_all}
@@ -10,7 +10,7 @@ use Rattle.vault_types.specs.declared.Answer.{Answer}
 use Rattle.vault_types.specs.Texts.{answer_text, fault_line}
 use Rattle.vault_traits.specs.Counts.{Rose}
 use Rattle.vault_traits.specs.Told.{SinkTold, Takes}
-use Rattle.destor_top.specs.World.{IsFrontOf, IsCutOff, IsPrinted, IsTold, report_text}
+use Rattle.destor_top.specs.World.{IsCutOff, IsPrinted, IsTold, report_text}
 
 pub takes_nothing : (told : Option (List ℕ)) → Takes told told []
 takes_nothing None = refl

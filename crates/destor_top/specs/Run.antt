@@ -12,7 +12,6 @@ use Rattle.vault_types.specs.declared.Fault.TheVariants as fault
 use Rattle.vault_types.specs.declared.Answer.{Answer}
 use Rattle.vault_types.specs.declared.Answer.TheVariants.{Refused}
 use Rattle.vault_types.specs.Words.{command_of}
-use Rattle.vault_types.specs.Shelf.{Blobs}
 use Rattle.vault_traits.specs.Told.{ShelfTold, SourceTold, SinkTold}
 use Rattle.destor_top.specs.World.{World, IsPrinted, IsTold, report_text, status_after}
 use Rattle.vault_types.specs.Cuts.{cuts}

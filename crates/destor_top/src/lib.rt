@@ -10,6 +10,7 @@ mod printing;
 mod run;
 mod status;
 
+pub use printing::tell;
 pub use run::{Ended, run_plain};
 
 #[cfg(test)]

@@ -35,7 +35,7 @@ pub fn print<O: Sink>(answer: &Answer, out: &mut O) -> Option<Fault>
     }
 }
 
-// Prints the line of a fault; a sink that fails changes nothing else. It takes no memory.
+/// Prints the line of a fault; a sink that fails changes nothing else. It takes no memory.
 pub fn tell<R: Sink>(fault: &Fault, report: &mut R)
     ensures { IsTold fault.now (R.told report.old) (R.told report.new) }
 {

@@ -5,7 +5,7 @@ use crate::{Ended, run_plain};
 use std::alloc::Global;
 use std::test::Fail;
 use vault_ports::{
-    FaultShelf, FaultSource, MemPlaces, MemShelf, MemSink, MemSource, Shelf, Source,
+    CrashShelf, FaultShelf, FaultSource, MemPlaces, MemShelf, MemSink, MemSource, Shelf, Source,
 };
 use vault_types::{Answer, Fault, Kind, Limits, Name};
 
@@ -26,6 +26,11 @@ const PAYLOAD: Name = Name {
 const RECIPE: Name = Name {
     kind: Kind::Recipe,
     number: 1,
+};
+
+const FLOOR: Name = Name {
+    kind: Kind::Floor,
+    number: 0,
 };
 
 // A run of the words of a text, with the report of faults behind it. The out sink has room for so many bytes.
@@ -107,9 +112,44 @@ fn a_first_backup_is_stored_and_reported(rt: HostRuntime) -> Result<(), Fail> {
         b"backup 1: 3 chunks, 10 bytes, 1 new containers, 6 bytes written, 0 sparse\n".as_slice()
     );
     assert!(rt; report.as_slice().is_empty());
+    assert_eq!(rt;
+        ended.shelf.names(alloc)?.as_slice(),
+        [TABLE, PAYLOAD, RECIPE, FLOOR].as_slice()
+    );
     assert!(rt; ended.shelf.blob(PAYLOAD) == Some(b"abcdab".as_slice()));
     assert_eq!(rt; blob_len(&ended.shelf, TABLE), 104);
     assert_eq!(rt; blob_len(&ended.shelf, RECIPE), 156);
+    assert_eq!(rt; blob_len(&ended.shelf, FLOOR), 28);
+    Ok(())
+}
+
+#[test]
+fn the_set_and_the_containers_are_as_the_words_say(rt: HostRuntime) -> Result<(), Fail> {
+    let alloc = rt.alloc();
+    let (ended, _) = run_over(
+        alloc,
+        "backup --set 3 --chunk fixed --size 4 --container 4",
+        4_194_304,
+        MemShelf::new(alloc),
+        source_of(alloc, TEXT)?,
+        100,
+    )?;
+    assert_eq!(rt;
+        ended.out.as_slice(),
+        b"backup 3/1: 3 chunks, 10 bytes, 2 new containers, 6 bytes written, 0 sparse\n".as_slice()
+    );
+    let names = [
+        (Kind::Table, 1, 80),
+        (Kind::Table, 2, 80),
+        (Kind::Payload, 1, 4),
+        (Kind::Payload, 2, 2),
+        (Kind::Recipe, (3 << 32) + 1, 168),
+        (Kind::Floor, 3, 28),
+    ];
+    assert_eq!(rt; ended.shelf.names(alloc)?.len(), names.len());
+    for (kind, number, len) in names {
+        assert_eq!(rt; blob_len(&ended.shelf, Name { kind, number }), len);
+    }
     Ok(())
 }
 
@@ -122,7 +162,7 @@ fn the_chunks_are_counted_up_to_the_limit(rt: HostRuntime) -> Result<(), Fail> {
         (b"abcdefghijkl".as_slice(), 0, stored(3, 12, 1, 12)),
         (b"abcdefghijklm".as_slice(), 9, many),
     ] {
-        let (ended, _) = run_over(
+        let (ended, report) = run_over(
             alloc,
             BACKUP,
             3,
@@ -132,6 +172,14 @@ fn the_chunks_are_counted_up_to_the_limit(rt: HostRuntime) -> Result<(), Fail> {
         )?;
         assert_eq!(rt; (ended.status, ended.fault), (status, None));
         assert_eq!(rt; ended.answers.as_slice(), [answer].as_slice());
+        assert_eq!(rt; ended.shelf.blob(RECIPE).is_some(), status == 0);
+        if status == 9 {
+            assert_eq!(rt;
+                ended.out.as_slice(),
+                b"error 9: too many chunks\n".as_slice()
+            );
+        }
+        assert!(rt; report.as_slice().is_empty());
     }
     Ok(())
 }
@@ -141,10 +189,16 @@ fn other_words_are_refused_before_the_shelf_is_touched(rt: HostRuntime) -> Resul
     let alloc = rt.alloc();
     for words in [
         "",
+        "backup --size 0",
         "backup --chunk fixed --size 0",
+        "backup --chunk fixed --size",
         "backup --chunk fixed --size 4 --size 4",
         "backup --chunk fixed --colour 1",
         "backup --max 4096",
+        // These are commands, but the program does not have them yet.
+        "backup",
+        "backup --chunk fixed --size 4 --sample 1 --prefetch 1",
+        "restore --version 1",
         "scrub",
     ] {
         let shelf = FaultShelf::new(MemShelf::new(alloc), [1].to_vec(alloc)?, false);
@@ -162,69 +216,125 @@ fn other_words_are_refused_before_the_shelf_is_touched(rt: HostRuntime) -> Resul
             "at {words}"
         );
         assert_eq!(rt; report.as_slice(), b"error 2: usage\n".as_slice());
+        assert!(rt; ended.out.as_slice().is_empty());
         assert!(rt; ended.answers.is_empty());
         assert_eq!(rt; ended.shelf.faults(), 0);
+        assert_eq!(rt; ended.input.left(), TEXT);
     }
     Ok(())
 }
 
+// Each call of the shelf fails once. The order of the calls shows in what is there after it: `list`; the mending's `remove`,
+// `put_floor` (3) and `settle`; `put` of the payload (5), of the table (6), `settle`; `put` of the recipe (8), `settle`.
 #[test]
 fn a_shelf_that_fails_is_told(rt: HostRuntime) -> Result<(), Fail> {
     let alloc = rt.alloc();
-    let failed = Fault::StoreFault(1);
-    for (call, answers, fault) in [(1, 0, Some(failed)), (8, 1, None)] {
-        let shelf = FaultShelf::new(MemShelf::new(alloc), [call].to_vec(alloc)?, true);
-        let (ended, _) = run_over(
-            alloc,
-            BACKUP,
-            4_194_304,
-            shelf,
-            source_of(alloc, TEXT)?,
-            100,
-        )?;
-        assert_eq!(rt; (ended.status, ended.fault), (6, fault), "at {call}");
-        assert_eq!(rt; ended.answers.len(), answers);
-        for answer in ended.answers.as_slice() {
-            assert_eq!(rt; *answer, Answer::Refused(failed));
+    let line = b"error 6: store failed\n".as_slice();
+    let refused = Answer::Refused(Fault::StoreFault(1));
+    for call in 1..10 {
+        for keep in [false, true] {
+            let shelf = FaultShelf::new(MemShelf::new(alloc), [call].to_vec(alloc)?, keep);
+            let (ended, report) = run_over(
+                alloc,
+                BACKUP,
+                4_194_304,
+                shelf,
+                source_of(alloc, TEXT)?,
+                100,
+            )?;
+            assert_eq!(rt; ended.status, 6, "at {call}");
+            if call == 1 {
+                assert_eq!(rt; ended.fault, Some(Fault::StoreFault(1)));
+                assert!(rt; ended.answers.is_empty() && ended.out.as_slice().is_empty());
+                assert_eq!(rt; report.as_slice(), line);
+            } else {
+                assert_eq!(rt; ended.fault, None, "at {call}");
+                assert_eq!(rt; ended.answers.as_slice(), [refused].as_slice());
+                assert_eq!(rt; ended.out.as_slice(), line);
+                assert!(rt; report.as_slice().is_empty());
+            }
+            assert_eq!(rt; ended.shelf.faults(), 1);
+            let left = ended.shelf.into_inner();
+            for (name, put) in [(FLOOR, 3), (PAYLOAD, 5), (TABLE, 6), (RECIPE, 8)] {
+                let is_there = put < call || put == call && keep;
+                assert_eq!(rt; left.blob(name).is_some(), is_there, "{put} at {call}");
+            }
         }
     }
     Ok(())
 }
 
 #[test]
+fn a_crash_leaves_the_version_whole_or_not_at_all(rt: HostRuntime) -> Result<(), Fail> {
+    let alloc = rt.alloc();
+    for stop in 1..11 {
+        for taken in 0..8 {
+            let shelf = CrashShelf::new(alloc, MemShelf::new(alloc), stop)?;
+            let (ended, _) = run_over(
+                alloc,
+                BACKUP,
+                4_194_304,
+                shelf,
+                source_of(alloc, TEXT)?,
+                100,
+            )?;
+            assert_eq!(rt; ended.status, if stop < 10 { 6 } else { 0 }, "at {stop}");
+            let image = ended.shelf.image(alloc, taken)?;
+            let is_there = stop == 10 || stop >= 8 && taken % 2 == 1;
+            assert_eq!(rt; image.blob(RECIPE).is_some(), is_there, "{stop} {taken}");
+            if is_there {
+                assert!(rt; image.blob(PAYLOAD) == Some(b"abcdab".as_slice()));
+                assert_eq!(rt; blob_len(&image, TABLE), 104);
+                assert_eq!(rt; blob_len(&image, FLOOR), 28);
+            }
+        }
+    }
+    Ok(())
+}
+
+// The source gives the text by four reads, and its end by the fifth.
+#[test]
 fn a_source_that_fails_is_the_answer(rt: HostRuntime) -> Result<(), Fail> {
     let alloc = rt.alloc();
-    let input = FaultSource::new(source_of(alloc, TEXT)?, [2].to_vec(alloc)?);
-    let (ended, _) = run_over(alloc, BACKUP, 4_194_304, MemShelf::new(alloc), input, 100)?;
-    assert_eq!(rt; (ended.status, ended.fault), (4, None));
-    assert_eq!(rt;
-        ended.answers.as_slice(),
-        [Answer::Refused(Fault::ReadFault(1))].as_slice()
-    );
-    assert_eq!(rt;
-        ended.out.as_slice(),
-        b"error 4: source failed\n".as_slice()
-    );
+    for read in 1..6 {
+        let input = FaultSource::new(source_of(alloc, TEXT)?, [read].to_vec(alloc)?);
+        let (ended, _) = run_over(alloc, BACKUP, 4_194_304, MemShelf::new(alloc), input, 100)?;
+        assert_eq!(rt; (ended.status, ended.fault), (4, None), "at {read}");
+        assert_eq!(rt;
+            ended.answers.as_slice(),
+            [Answer::Refused(Fault::ReadFault(1))].as_slice()
+        );
+        assert_eq!(rt;
+            ended.out.as_slice(),
+            b"error 4: source failed\n".as_slice()
+        );
+        assert!(rt; ended.shelf.blob(RECIPE).is_none());
+    }
     Ok(())
 }
 
 #[test]
 fn a_report_without_room_is_a_fault_and_the_store_is_there(rt: HostRuntime) -> Result<(), Fail> {
     let alloc = rt.alloc();
-    let (ended, _) = run_over(
-        alloc,
-        BACKUP,
-        4_194_304,
-        MemShelf::new(alloc),
-        source_of(alloc, TEXT)?,
-        0,
-    )?;
-    assert_eq!(rt;
-        (ended.status, ended.fault),
-        (5, Some(Fault::WriteFault(1)))
-    );
-    assert_eq!(rt; ended.answers.as_slice(), [stored(3, 10, 1, 6)].as_slice());
-    assert!(rt; ended.shelf.blob(PAYLOAD) == Some(b"abcdab".as_slice()));
+    for front in [b"".as_slice(), b"backup 1: 3".as_slice()] {
+        let (ended, report) = run_over(
+            alloc,
+            BACKUP,
+            4_194_304,
+            MemShelf::new(alloc),
+            source_of(alloc, TEXT)?,
+            front.len(),
+        )?;
+        assert_eq!(rt;
+            (ended.status, ended.fault),
+            (5, Some(Fault::WriteFault(1)))
+        );
+        assert_eq!(rt; ended.answers.as_slice(), [stored(3, 10, 1, 6)].as_slice());
+        assert_eq!(rt; ended.out.as_slice(), front);
+        assert!(rt; report.as_slice().is_empty());
+        assert!(rt; ended.shelf.blob(PAYLOAD) == Some(b"abcdab".as_slice()));
+        assert_eq!(rt; blob_len(&ended.shelf, RECIPE), 156);
+    }
     Ok(())
 }
 

@@ -1,7 +1,6 @@
-use Rattle.std.proofs.Common.{◌≡◌, ◌∙◌, ◌++◌, sym, ap, subst, ℕ, List, [], ◌∷◌}
+use Rattle.std.proofs.Common.{◌≡◌, ◌∙◌, ◌++◌, ap, subst, ℕ, List, [], ◌∷◌}
 use Rattle.vault_types.specs.declared.Answer.{Answer}
-use Rattle.destor_top.specs.World.{IsPrinted, report_text, status_after}
-use Rattle.destor_top.specs.Run.{answer_of}
+use Rattle.destor_top.specs.World.{IsPrinted, status_after}
 use Rattle.destor_top.proofs.Written.{one_line}
 use Rattle.destor_top.proofs.run.run_line.Goals as goal
 

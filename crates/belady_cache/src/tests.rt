@@ -40,10 +40,11 @@ fn the_container_needed_last_goes(rt: HostRuntime) -> Result<(), Fail> {
 
 #[test]
 fn more_slots_take_fewer_loads(rt: HostRuntime) -> Result<(), Fail> {
-    let reqs = [1, 2, 1, 3, 1, 2];
-    for (slots, loads) in [(1, 6), (2, 4), (3, 3), (64, 3)] {
-        let planned = plan(rt.alloc(), reqs.as_slice(), slots)?;
-        assert_eq!(rt; planned.loads, loads, "with {slots} slots");
+    for (slots, short, long) in [(1, 5, 6), (2, 4, 4), (3, 3, 3), (64, 3, 3)] {
+        let planned = plan(rt.alloc(), [1, 2, 3, 1, 2].as_slice(), slots)?;
+        assert_eq!(rt; planned.loads, short, "with {slots} slots");
+        let planned = plan(rt.alloc(), [1, 2, 1, 3, 1, 2].as_slice(), slots)?;
+        assert_eq!(rt; planned.loads, long, "with {slots} slots");
     }
     Ok(())
 }

@@ -52,10 +52,12 @@ fn a_chunk_comes_as_soon_as_its_length_is_fixed(rt: HostRuntime) -> Result<(), F
     assert_eq!(rt; out.len(), 0);
     chunker.feed(rt.alloc(), &[0; 1], &mut out)?;
     assert_eq!(rt; out.len(), 1);
-    chunker.feed(rt.alloc(), &[0; 4], &mut out)?;
-    assert_eq!(rt; out.len(), 1);
-    chunker.finish(&mut out)?;
+    chunker.feed(rt.alloc(), &[0; 5], &mut out)?;
     assert_eq!(rt; out.len(), 2);
+    chunker.feed(rt.alloc(), &[0; 4], &mut out)?;
+    assert_eq!(rt; out.len(), 2);
+    chunker.finish(&mut out)?;
+    assert_eq!(rt; out.len(), 3);
     Ok(())
 }
 

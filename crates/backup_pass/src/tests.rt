@@ -1,9 +1,14 @@
-ghost use Rattle.std.specs.Prelude.{◌≡◌};
+ghost use Rattle.std.specs.Prelude.{◌≡◌, ◌≤◌, ◌^◌};
 
 use super::*;
+use container_fill::{Filled, Filler};
+use fingerprint_stage::{Chunk, name};
 use fp_index::Index;
+use rewrite_stage::Decider;
+use std::alloc::Global;
+use std::process::Abort;
 use std::test::Fail;
-use vault_types::{Cutting, Fault, JobConfig};
+use vault_types::{Cutting, Fault, Id, JobConfig, Memory, Rewrite};
 
 fn settings() -> JobConfig
     ensures cutting { result.cutting ≡ Cutting.Fixed 4 }
@@ -12,6 +17,85 @@ fn settings() -> JobConfig
     let mut config = JobConfig::standard();
     config.cutting = Cutting::Fixed { size: 4 };
     config
+}
+
+// Chunks of four equal letters each.
+fn chunks_of(alloc: Global, letters: &[u8]) -> Result<Vec<Chunk>, Memory> {
+    let mut chunks = Vec::new(alloc);
+    for letter in letters {
+        chunks.push(name(vec![in alloc; *letter; 4]?))?;
+    }
+    Ok(chunks)
+}
+
+// A backup of one segment by a decider and a filler alone, and the index with what it wrote.
+fn back_up(
+    alloc: Global,
+    index: Index,
+    next: Id,
+    config: &JobConfig,
+    letters: &[u8],
+) -> Result<(Index, Filled), Memory>
+    requires low { 1 ≤ next }
+    requires high { next ≤ 2 ^ 63 }
+    requires some { 1 ≤ config.now.container }
+    requires most { config.now.container ≤ 4194304 }
+{
+    let mut decider = Decider::new(alloc, index, Vec::new(alloc), *config);
+    let mut filler = Filler::new(alloc, next, config.container);
+    let decided = decider.segment(alloc, chunks_of(alloc, letters)?)?;
+    let mut index = decider.end();
+    for one in decided {
+        if let Some(sealed) = filler.push(alloc, one)? {
+            index.add_container(alloc, sealed.table())?;
+        }
+    }
+    let filled = filler.finish()?;
+    if let Some(sealed) = &filled.last {
+        index.add_container(alloc, sealed.table())?;
+    }
+    Ok((index, filled))
+}
+
+fn ids_of(alloc: Global, filled: &Filled) -> Result<Vec<Id>, Memory> {
+    let rows = &filled.rows;
+    Ok(rows.as_slice().iter().map(|row| row.id).collect(alloc)?)
+}
+
+// Three backups, of which the second is capped: the ids of its rows, how many containers it wrote, and the free id after
+// it. The third refers to the second container of the first.
+fn expect_capped(
+    rt: &impl Abort,
+    alloc: Global,
+    cap: u32,
+    ids: &[Id],
+    containers: u64,
+    next: Id,
+) -> Result<(), Memory>
+    requires low { 1 ≤ next }
+    requires high { next ≤ 2 ^ 63 }
+{
+    let mut config = settings();
+    config.rewrite = Rewrite::Off;
+    config.container = 8;
+    let index = Index::from_tables(alloc, &[])?;
+    let (index, filled) = back_up(alloc, index, 1, &config, b"abcd")?;
+    let found = ids_of(alloc, &filled)?;
+    assert_eq!(rt; found.as_slice(), [1, 1, 2, 2].as_slice());
+    assert_eq!(rt; (filled.containers, filled.next), (2, 3));
+    config.rewrite = Rewrite::Cap;
+    config.cap = cap;
+    config.container = 4_194_304;
+    let (index, filled) = back_up(alloc, index, 3, &config, b"ac")?;
+    let found = ids_of(alloc, &filled)?;
+    assert_eq!(rt; found.as_slice(), ids);
+    assert_eq!(rt; (filled.containers, filled.next), (containers, next));
+    config.rewrite = Rewrite::Off;
+    let (_, filled) = back_up(alloc, index, next, &config, b"d")?;
+    let found = ids_of(alloc, &filled)?;
+    assert_eq!(rt; found.as_slice(), [2].as_slice());
+    assert_eq!(rt; (filled.containers, filled.next), (0, next));
+    Ok(())
 }
 
 #[test]
@@ -30,6 +114,13 @@ fn a_stream_becomes_a_container_and_rows(rt: HostRuntime) -> Result<(), Fail> {
     assert_eq!(rt; filled.written, 6);
     let last = filled.last.ok_or("no container")?;
     assert_eq!(rt; last.payload(), b"abcdab".as_slice());
+    Ok(())
+}
+
+#[test]
+fn a_capped_backup_writes_again_what_it_does_not_keep(rt: HostRuntime) -> Result<(), Fail> {
+    expect_capped(&rt, rt.alloc(), 1, &[1, 3], 1, 4)?;
+    expect_capped(&rt, rt.alloc(), 2, &[1, 2], 0, 3)?;
     Ok(())
 }
 

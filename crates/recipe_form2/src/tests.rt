@@ -1,5 +1,7 @@
 use super::*;
+use sha1::Sha1;
 use std::test::*;
+use vault_types::Fp;
 
 // A recipe of set 3: two rows `ab`, of containers 1 and 2, which are both sparse.
 const RECIPE: [u8; 160] = [
@@ -41,8 +43,24 @@ fn a_recipe_is_read_and_written(rt: HostRuntime) -> Result<(), Fail> {
 }
 
 #[test]
+fn a_version_of_no_bytes_has_a_recipe(rt: HostRuntime) -> Result<(), Fail> {
+    let Ok(Some(recipe)) = decode2(rt.alloc(), &EMPTY, 0, 1) else {
+        return Err(Fail::from("the bytes are a recipe"));
+    };
+    assert_eq!(rt; recipe.next, 1);
+    assert_eq!(rt; recipe.length, 0);
+    assert!(rt; recipe.rows.as_slice().is_empty());
+    assert!(rt; recipe.sparse.as_slice().is_empty());
+    assert_eq!(rt; recipe.whole, Some(Fp(Sha1::digest(b""))));
+    let Ok(blob) = encode2(rt.alloc(), &recipe) else {
+        return Err(Fail::from("there is memory"));
+    };
+    assert_eq!(rt; blob.as_slice(), EMPTY.as_slice());
+    Ok(())
+}
+
+#[test]
 fn it_is_no_recipe_of_another_set_or_version(rt: HostRuntime) {
     assert!(rt; matches!(decode2(rt.alloc(), &RECIPE, 4, 1), Ok(None)));
     assert!(rt; matches!(decode2(rt.alloc(), &RECIPE, 3, 2), Ok(None)));
-    assert!(rt; matches!(decode2(rt.alloc(), &EMPTY, 0, 1), Ok(Some(_))));
 }

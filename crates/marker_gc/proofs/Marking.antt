@@ -22,7 +22,7 @@ abbrev nothing : Option ℕ
 nothing = None
 
 -- the marker with one mark more in front
-marker_of-cons : (m : Mark) (marks : List Mark) (s c : ℕ) → marker_of (m ∷ marks) s c ≡ cond (is_of s c m) (raised m.version (marker_of marks s c)) (marker_of marks s c)
+pub marker_of-cons : (m : Mark) (marks : List Mark) (s c : ℕ) → marker_of (m ∷ marks) s c ≡ cond (is_of s c m) (raised m.version (marker_of marks s c)) (marker_of marks s c)
 marker_of-cons m marks s c = step (is_of s c m)
   where
     step : (b : Bool) → greatest (map (λ n. n.version) (cond b (m ∷ filter (is_of s c) marks) (filter (is_of s c) marks))) ≡ cond b (raised m.version (marker_of marks s c)) (marker_of marks s c)

@@ -1,0 +1,4 @@
+mod Counting
+mod Naming
+mod Keeping
+mod Taking

@@ -1,0 +1,5 @@
+pub mod Copied
+pub mod Covered
+pub mod Runs
+pub mod Steps
+pub mod Written

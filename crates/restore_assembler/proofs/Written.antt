@@ -1,0 +1,101 @@
+-- What was written, piece by piece.
+use Rattle.std.proofs.Common.{◌≡◌, ◌≤◌, ◌<◌, ◌+◌, ◌-◌, ◌++◌, length, length-append, get_or, flat_map, length-drop, ℕ, List, [], take, drop, append_assoc, Option, Some, None, refl, sym, ap, subst, arith, ◌∙◌}
+use Rattle.std.specs.Option.{option_map}
+use Rattle.std.proofs.Math.Seq.{take-add}
+use Rattle.std.proofs.lemmas.List.{append-nil, take-append-drop, take_all, drop_more}
+use Rattle.std.proofs.lemmas.List.Concat.{flat_map-append}
+use Rattle.vault_types.specs.declared.Spot.{Spot}
+use Rattle.vault_types.specs.Bytes.{spot_bytes}
+use Rattle.vault_traits.specs.Counts.{Rose}
+use Rattle.vault_traits.specs.Told.{SinkTold, Takes}
+use Rattle.fingerprint_stage.specs.declared.running_sum.RunningSum.{RunningSum}
+use Rattle.restore_assembler.specs.Writing.{IsSumOf, IsWritten, IsCutOff}
+
+pub takes_nothing : (told : Option (List ℕ)) → Takes told told []
+takes_nothing None = refl
+takes_nothing (Some x) = ap Some (sym (append-nil x))
+
+pub takes_then : (before mid now : Option (List ℕ)) (x y : List ℕ) → Takes before mid x → Takes mid now y → Takes before now (x ++ y)
+takes_then None mid now x y p q = q ∙ ap (option_map (λ z. z ++ y)) p
+takes_then (Some w) mid now x y p q = q ∙ ap (option_map (λ z. z ++ y)) p ∙ ap Some (append_assoc w x y)
+
+-- what is left of the bytes, as the slice from there
+left_of : (bytes : List ℕ) (done : ℕ) → take (length bytes - done) (drop done bytes) ≡ drop done bytes
+left_of bytes done = let left : length (drop done bytes) ≡ length bytes - done = length-drop done bytes in take_all (length bytes - done) (drop done bytes) (omega arith)
+
+-- more of the bytes behind what was written
+pub takes_more : (before mid now : Option (List ℕ)) (bytes : List ℕ) (done n : ℕ) → Takes before mid (take done bytes) → Takes mid now (take n (take (length bytes - done) (drop done bytes))) → Takes before now (take (done + n) bytes)
+takes_more before mid now bytes done n p q =
+    let r : Takes mid now (take n (drop done bytes)) = subst (λ (piece : List ℕ). Takes mid now (take n piece)) (left_of bytes done) q in
+    subst (λ (x : List ℕ). Takes before now x) (sym (take-add done n bytes)) (takes_then before mid now (take done bytes) (take n (drop done bytes)) p r)
+
+pub within_more : (bytes : List ℕ) (done n : ℕ) → done ≤ length bytes → n ≤ length (take (length bytes - done) (drop done bytes)) → done + n ≤ length bytes
+within_more bytes done n h few =
+    let left : length (drop done bytes) ≡ length bytes - done = length-drop done bytes in
+    let most : n ≤ length (drop done bytes) = subst (λ (piece : List ℕ). n ≤ length piece) (left_of bytes done) few in
+    omega arith
+
+pub cut_off : (bytes : List ℕ) (done : ℕ) (before mid now : SinkTold) → Takes before.taken mid.taken (take done bytes) → before.faults ≤ mid.faults → now.taken ≡ mid.taken → Rose mid.faults now.faults → done < length bytes → IsCutOff bytes before now
+cut_off bytes done before mid now taken later same rose some = record {
+  failed = omega arith;
+  front = take done bytes;
+  rest = drop done bytes;
+  short = omega (arith, length-drop done bytes);
+  parts = take-append-drop done bytes;
+  taken = same ∙ taken;
+}
+
+-- no bytes
+pub written_nothing : (told : SinkTold) (sum : Option RunningSum) → IsWritten [] told told sum sum
+written_nothing told sum = record {
+  taken = takes_nothing told.taken;
+  summed = λ x h. subst (IsSumOf sum) (sym (append-nil x)) h;
+  kept = refl;
+  later = omega arith;
+}
+
+-- two pieces one after another
+pub written_then : (x y : List ℕ) (before mid now : SinkTold) (sum sum' sum'' : Option RunningSum) → IsWritten x before mid sum sum' → IsWritten y mid now sum' sum'' → IsWritten (x ++ y) before now sum sum''
+written_then x y before mid now sum sum' sum'' p q = record {
+  taken = takes_then before.taken mid.taken now.taken x y p.taken q.taken;
+  summed = λ z h. subst (IsSumOf sum'') (append_assoc z x y) (q.summed (z ++ x) (p.summed z h));
+  kept = q.kept ∙ p.kept;
+  later = omega (arith, p.later, q.later);
+}
+
+-- the sink failed in the second piece
+pub cut_off_then : (x y : List ℕ) (before mid now : SinkTold) (sum sum' : Option RunningSum) → IsWritten x before mid sum sum' → IsCutOff y mid now → IsCutOff (x ++ y) before now
+cut_off_then x y before mid now sum sum' p q = record {
+  failed = omega (arith, p.later, q.failed);
+  front = x ++ q.front;
+  rest = q.rest;
+  short = q.short;
+  parts = append_assoc x q.front q.rest ∙ ap (λ z. x ++ z) q.parts;
+  taken = takes_then before.taken mid.taken now.taken x q.front p.taken q.taken;
+}
+
+-- it failed in the first of two pieces
+pub cut_off_before : (x y : List ℕ) (before now : SinkTold) → IsCutOff x before now → IsCutOff (x ++ y) before now
+cut_off_before x y before now q = record {
+  failed = q.failed;
+  front = q.front;
+  rest = q.rest ++ y;
+  short = omega (arith, length-append q.rest y, q.short);
+  parts = sym (append_assoc q.front q.rest y) ∙ ap (λ z. z ++ y) q.parts;
+  taken = q.taken;
+}
+
+-- the sink failed in a spot of a run
+pub cut_off_in : (payload : List ℕ) (run : List Spot) (i : ℕ) (spot : Spot) (end : ℕ) (before mid now : SinkTold) (sum sum' : Option RunningSum) → i < length run → end ≡ (get_or run i spot).at + (get_or run i spot).len → IsWritten (flat_map (spot_bytes (λ _. payload)) (take i run)) before mid sum sum' → IsCutOff (take (end - (get_or run i spot).at) (drop (get_or run i spot).at payload)) mid now → IsCutOff (flat_map (spot_bytes (λ _. payload)) run) before now
+cut_off_in payload run i spot end before mid now sum sum' l is done cut =
+    let f : Spot → List ℕ = spot_bytes (λ _. payload) in
+    let x : Spot = get_or run i spot in
+    let long : end - x.at ≡ x.len = omega arith in
+    let piece : IsCutOff (f x) mid now = subst (λ (n : ℕ). IsCutOff (take n (drop x.at payload)) mid now) long cut in
+    let all : flat_map f (take i run) ++ (f x ++ flat_map f (drop (i + 1) run)) ≡ flat_map f run =
+    ap (λ ys. flat_map f (take i run) ++ flat_map f ys) (sym (drop_more run i spot l))
+    ∙ sym (flat_map-append f (take i run) (drop i run))
+    ∙ ap (flat_map f) (take-append-drop i run) in
+    subst (λ (bytes : List ℕ). IsCutOff bytes before now) all
+    (cut_off_then (flat_map f (take i run)) (f x ++ flat_map f (drop (i + 1) run)) before mid now sum sum' done
+    (cut_off_before (f x) (flat_map f (drop (i + 1) run)) mid now piece))

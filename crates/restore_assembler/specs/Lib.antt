@@ -1,0 +1,5 @@
+pub mod Copying
+pub mod Ends
+pub mod Payloads
+pub mod Progress
+pub mod Writing

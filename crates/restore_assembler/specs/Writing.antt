@@ -1,0 +1,26 @@
+-- What was written of some bytes.
+use Rattle.std.specs.Prelude.{◌≡◌, ℕ, ◌≤◌, ◌<◌, List, ◌++◌, Option, is_some, IfSome, length}
+use Rattle.vault_traits.specs.Counts.{Rose}
+use Rattle.vault_traits.specs.Told.{SinkTold, Takes}
+use Rattle.fingerprint_stage.specs.declared.running_sum.RunningSum.{RunningSum}
+use Rattle.fingerprint_stage.specs.Sums.{HasSummed}
+
+-- the sum, if there is one, is that of these bytes so far
+abbrev pub IsSumOf : Option RunningSum → List ℕ → Type 0
+IsSumOf sum bytes = IfSome sum (λ s. HasSummed s bytes)
+
+-- all these bytes were written, and the sum, if there is one, has them too
+pub record IsWritten (bytes : List ℕ) (before now : SinkTold) (sum sum' : Option RunningSum) : Type 0 where
+  pub taken : Takes before.taken now.taken bytes
+  pub summed : (x : List ℕ) → IsSumOf sum x → IsSumOf sum' (x ++ bytes)
+  pub kept : is_some sum' ≡ is_some sum
+  pub later : before.faults ≤ now.faults
+
+-- the sink failed, and before that a front of the bytes was written, but not all
+pub record IsCutOff (bytes : List ℕ) (before now : SinkTold) : Type 0 where
+  pub failed : Rose before.faults now.faults
+  pub front : List ℕ
+  pub rest : List ℕ
+  pub short : 0 < length rest
+  pub parts : front ++ rest ≡ bytes
+  pub taken : Takes before.taken now.taken front

@@ -1,0 +1,2 @@
+mod Pinning
+pub mod Callers

@@ -1,4 +1,5 @@
-//! Times single stages: `stage_bench cut < FILE`, `find`, `decide`, `growth`, `plan`. What each measures stands in
+//! Times single stages: `stage_bench cut < FILE`, `find`, `decide`, `growth`, `plan`,
+//! `recipe < FILE`. What each measures stands in
 //! docs/PERFORMANCE.md; bench/run runs them all.
 #![tactic(auto)]
 
@@ -7,6 +8,7 @@ mod decide;
 mod find;
 mod made;
 mod plan;
+mod recipe;
 mod watch;
 
 use crate::watch::Stop;
@@ -32,8 +34,9 @@ fn run(rt: HostRuntime) -> Result<(), Stop> {
         "decide" => decide::run(rt),
         "growth" => decide::growth(rt),
         "plan" => plan::run(rt),
+        "recipe" => recipe::run(rt),
         _ => {
-            println!(rt; "stage_bench cut | find | decide | growth | plan")?;
+            println!(rt; "stage_bench cut | find | decide | growth | plan | recipe")?;
             Ok(())
         }
     }

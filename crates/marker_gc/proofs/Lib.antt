@@ -1,3 +1,5 @@
 pub mod Lists
 pub mod Marking
 mod Taking
+mod Stepping
+pub mod Callers

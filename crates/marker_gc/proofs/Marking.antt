@@ -128,15 +128,15 @@ marker_of-above t floor (m ∷ marks) s c =
 
 -- which ids are named
 
-all-append : (Q : Mark → Type 0) (ms ns : List Mark) → AllByRecursion Q ms → AllByRecursion Q ns → AllByRecursion Q (ms ++ ns)
+pub all-append : (Q : Mark → Type 0) (ms ns : List Mark) → AllByRecursion Q ms → AllByRecursion Q ns → AllByRecursion Q (ms ++ ns)
 all-append Q [] ns h i = i
 all-append Q (m ∷ ms) ns h i = (h.0, all-append Q ms ns h.1 i)
 
-all-marks_of : (s v : ℕ) (ids : List ℕ) → AllByRecursion (λ m. m.set ≡ s) (marks_of s v ids)
+pub all-marks_of : (s v : ℕ) (ids : List ℕ) → AllByRecursion (λ m. m.set ≡ s) (marks_of s v ids)
 all-marks_of s v [] = tt
 all-marks_of s v (n ∷ ids) = (refl, all-marks_of s v ids)
 
-all-filter : (Q : Mark → Type 0) (p : Mark → Bool) (ms : List Mark) → AllByRecursion Q ms → AllByRecursion Q (filter p ms)
+pub all-filter : (Q : Mark → Type 0) (p : Mark → Bool) (ms : List Mark) → AllByRecursion Q ms → AllByRecursion Q (filter p ms)
 all-filter Q p [] h = tt
 all-filter Q p (m ∷ ms) h = step (p m) (all-filter Q p ms h.1)
   where
@@ -148,7 +148,7 @@ pub has-marked_ids : (c : ℕ) (marks : List Mark) → has c (marked_ids marks) 
 has-marked_ids c marks = has-set_of c (map (λ m. m.id) marks)
 
 -- in one set an id is named where it has a marker
-named-marker : (s c : ℕ) (marks : List Mark) → AllByRecursion (λ m. m.set ≡ s) marks → has c (map (λ m. m.id) marks) ≡ is_some (marker_of marks s c)
+pub named-marker : (s c : ℕ) (marks : List Mark) → AllByRecursion (λ m. m.set ≡ s) marks → has c (map (λ m. m.id) marks) ≡ is_some (marker_of marks s c)
 named-marker s c [] h = refl
 named-marker s c (m ∷ marks) h =
     ap (λ b. nat_eq c m.id || b) (named-marker s c marks h.1)

@@ -6,10 +6,11 @@
 //! takes time in proportion to the ids that it is given, and a deletion in proportion to the containers that are named.
 #![tactic(auto)]
 
-ghost use Rattle.std.specs.Prelude.{◌≡◌, ◌≤◌, ◌+◌, ◌++◌, [], List, ℕ, length, vec_len, vec_capacity, OnOk};
+ghost use Rattle.std.specs.Prelude.{◌≡◌, ◌≤◌, ◌+◌, ◌++◌, ◌&&◌, not, [], List, ℕ, length, vec_len, vec_capacity, OnOk};
 ghost use Rattle.vault_types.specs.Lists.{has};
 ghost use Rattle.vault_types.specs.Marks.{Mark, marks_of, marked_ids, marks_above, freed_ids};
 ghost use Rattle.marker_gc.specs.Markers.{AreMarkers};
+ghost use Rattle.marker_gc.specs.Steps.{Step, marks_after, stands_above, stands_since, VersionsRise};
 
 mod map;
 pub mod order;
@@ -97,6 +98,13 @@ impl Markers {
         drop_below(&mut self.markers, floor);
     }
 }
+
+/// However the markers came about, with versions that rise: what is named stands in some list that was committed since it
+/// was last taken, and what a floor takes of it stands in no list for a version at or above the floor.
+pub fn taken_ids_are_in_no_newer_list()
+    ensures named { (s c : ℕ) (steps : List Step) → VersionsRise steps → has c (marked_ids (marks_after s steps)) ≡ stands_since steps c }
+    ensures taken { (s floor c : ℕ) (steps : List Step) → VersionsRise steps → has c (freed_ids s floor (marks_after s steps)) ≡ (stands_since steps c && not (stands_above floor steps c)) }
+{}
 
 #[cfg(test)]
 mod tests;

@@ -1,4 +1,6 @@
 mod Counting
-mod Naming
+pub mod Naming
 mod Keeping
 mod Taking
+mod Stepping
+pub mod Callers

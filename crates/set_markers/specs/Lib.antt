@@ -1,1 +1,2 @@
 pub mod SetMarkers
+pub mod Steps

@@ -8,10 +8,12 @@
 //! one more for each set that names it.
 #![tactic(auto)]
 
-ghost use Rattle.std.specs.Prelude.{◌≡◌, ◌≤◌, ◌+◌, ◌++◌, [], List, length, vec_len, vec_capacity, OnOk};
+ghost use Rattle.std.specs.Prelude.{◌≡◌, ◌≤◌, ◌+◌, ◌++◌, ◌∷◌, ◌&&◌, not, [], List, ℕ, length, vec_len, vec_capacity, OnOk};
 ghost use Rattle.vault_types.specs.Lists.{has};
 ghost use Rattle.vault_types.specs.Marks.{Mark, marks_of, marked_ids, marks_above, freed_ids};
 ghost use Rattle.set_markers.specs.SetMarkers.{AreMarkersOfSets};
+ghost use Rattle.set_markers.specs.Steps.{Step, marks_after, floor_after, stands_above, stands_since, FloorsRise};
+ghost use Rattle.set_markers.specs.Steps.Step.{Taken};
 
 mod maps;
 
@@ -105,6 +107,14 @@ impl SetMarkers {
         sort_from(out, start);
     }
 }
+
+/// However the markers came about, with no version and no floor below a floor that was handed in before for its set: what
+/// is named stands in some commit since it was last taken, and what a floor takes of it stands in no commit whose version
+/// is at or above the last floor of its set.
+pub fn taken_ids_are_in_no_kept_version()
+    ensures named { (c : ℕ) (steps : List Step) → FloorsRise steps → has c (marked_ids (marks_after steps)) ≡ stands_since steps c }
+    ensures taken { (s floor c : ℕ) (steps : List Step) → FloorsRise (Taken s floor ∷ steps) → has c (freed_ids s floor (marks_after steps)) ≡ (stands_since steps c && not (stands_above (floor_after (Taken s floor ∷ steps)) steps c)) }
+{}
 
 #[cfg(test)]
 mod tests;

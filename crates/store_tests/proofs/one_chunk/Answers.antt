@@ -1,4 +1,4 @@
-use Rattle.std.proofs.Common.{◌∙◌, ap, arith}
+use Rattle.std.proofs.Common.{◌∙◌, arith}
 use Rattle.store_tests.proofs.OneChunk.{one-table, one-whole}
 use Rattle.store_tests.proofs.one_chunk.Goals as goal
 

@@ -5,10 +5,9 @@
 ghost use Rattle.std.specs.Prelude.{◌≡◌, map, IfOk};
 ghost use Rattle.vault_types.specs.Lists.{set_of};
 
-use marker_gc::order::sort_from;
 use set_markers::SetMarkers;
 use std::alloc::Global;
-use std::collections::BTreeMap;
+use std::collections::{BTreeMap, BTreeSet};
 use vault_types::list::ListOf;
 use vault_types::{Id, Memory, Name, Row, Set, Table, Version};
 
@@ -41,17 +40,25 @@ pub struct Catalog {
     pub freed: Vec<Id>,
 }
 
+// The ids that rows name, each once.
+fn ids_in(alloc: Global, rows: &[Row]) -> Result<BTreeSet<Id>, Memory>
+    ensures { IfOk result (λ ids. ids.keys ≡ set_of (map (λ r. r.id) rows.now)) }
+{
+    let mut ids = BTreeSet::new(alloc);
+    for row in rows {
+        ids.insert(row.id)?;
+    }
+    Ok(ids)
+}
+
 /// The ids that rows name, ascending, each once. The only error is `Memory`.
 pub fn distinct_ids(alloc: Global, rows: &[Row]) -> Result<Vec<Id>, Memory>
     ensures { IfOk result (λ ids. ids.items ≡ set_of (map (λ r. r.id) rows.now)) }
 {
-    let mut ids = Vec::new(alloc);
-    for row in rows {
-        if ids.last() != Some(&row.id) {
-            ids.push(row.id)?;
-        }
+    let ids = ids_in(alloc, rows)?;
+    let mut list = Vec::new(alloc);
+    for id in &ids {
+        list.push(*id)?;
     }
-    sort_from(&mut ids, 0);
-    ids.dedup();
-    Ok(ids)
+    Ok(list)
 }

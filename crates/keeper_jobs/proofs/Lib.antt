@@ -1,0 +1,4 @@
+pub mod Seeing
+pub mod NewNames
+pub mod Rooms
+pub mod Tables

@@ -1,0 +1,29 @@
+use Rattle.std.proofs.Common.{◌≡◌, ⊎_elim, List, ◌++◌, sym, ◌∙◌, ap, subst}
+use Rattle.vault_types.specs.declared.Name.{Name}
+use Rattle.vault_types.specs.declared.Table.{Table}
+use Rattle.keeper_parts.specs.Parts.{HeldIfTold, with_strays}
+use Rattle.keeper_jobs.specs.Jobs.{names_of}
+use Rattle.keeper_jobs.proofs.NewNames.{same_held, more_held, spare_payload, spare_table}
+use Rattle.keeper_jobs.proofs.putting.put_sealed.Goals as goal
+
+pub returns-in_err-note_container-clause-held : goal.returns-in_err-note_container-clause-held
+returns-in_err-note_container-clause-held g c K puts held = ⊎_elim
+    (λ same. same_held K _ _ (puts.strays_are ∙ sym same) held)
+    (λ more. subst (λ (l : List Name). HeldIfTold (g.S.Shelf.told c.args.shelf.now).blobs (with_strays l K)) (sym (more ∙ ap (λ (t : Table). c.args.catalog.now.strays.items ++ names_of t.id) c.table.ensures.is)) (more_held K _ _ puts _ held))
+    c.note_container.ensures.strays
+
+pub returns-in-Ok-clause-held : goal.returns-in-Ok-clause-held
+returns-in-Ok-clause-held g c K puts held = subst (λ (l : List Name). HeldIfTold (g.S.Shelf.told c.put_container.new.shelf).blobs (with_strays l K)) (sym (c.in_ok-note_container.ensures.noted ∙ ap (λ (t : Table). c.args.catalog.now.strays.items ++ names_of t.id) c.table.ensures.is))
+    (c.put_container.ensures.held (with_strays (c.args.catalog.now.strays.items ++ names_of c.args.sealed.table.id) K) (spare_payload K _ _ puts _) (spare_table K _ _ puts _) (more_held K _ _ puts _ held))
+
+pub returns-in-Ok-clause-any_moment : goal.returns-in-Ok-clause-any_moment
+returns-in-Ok-clause-any_moment g c K puts here =
+    c.put_container.ensures.any_moment (with_strays (c.args.catalog.now.strays.items ++ names_of c.args.sealed.table.id) K) (spare_payload K _ _ puts _) (spare_table K _ _ puts _) here
+
+pub returns-in-Err-clause-held : goal.returns-in-Err-clause-held
+returns-in-Err-clause-held g c K puts held = subst (λ (l : List Name). HeldIfTold (g.S.Shelf.told c.put_container.new.shelf).blobs (with_strays l K)) (sym (c.in_ok-note_container.ensures.noted ∙ ap (λ (t : Table). c.args.catalog.now.strays.items ++ names_of t.id) c.table.ensures.is))
+    (c.put_container.ensures.held (with_strays (c.args.catalog.now.strays.items ++ names_of c.args.sealed.table.id) K) (spare_payload K _ _ puts _) (spare_table K _ _ puts _) (more_held K _ _ puts _ held))
+
+pub returns-in-Err-clause-any_moment : goal.returns-in-Err-clause-any_moment
+returns-in-Err-clause-any_moment g c K puts here =
+    c.put_container.ensures.any_moment (with_strays (c.args.catalog.now.strays.items ++ names_of c.args.sealed.table.id) K) (spare_payload K _ _ puts _) (spare_table K _ _ puts _) here

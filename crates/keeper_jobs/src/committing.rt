@@ -1,0 +1,82 @@
+//! The commit of a recipe.
+ghost use Rattle.std.specs.Prelude.{◌≡◌, ◌≤◌, ◌<◌, Err, OnOk, OnErr, IsSome, Some, None, map};
+ghost use Rattle.vault_types.specs.Events.{Core, Job, IsNear, after_commit, after_refused, committed, commit_change};
+ghost use Rattle.vault_types.specs.declared.Pending.{Pending as Pendings};
+ghost use Rattle.vault_types.specs.declared.Pending.TheVariants as pending;
+ghost use Rattle.vault_types.specs.Blobs.{IsRecipe};
+ghost use Rattle.fp_index.specs.Index.{IsIndexOf};
+ghost use Rattle.vault_traits.specs.Counts.{Rose};
+ghost use Rattle.vault_traits.specs.Crash.{LeavesNowIfTold, LeavesOnlyIfTold};
+ghost use Rattle.keeper_parts.specs.Parts.{HeldIfTold};
+ghost use Rattle.keeper_catalog.specs.Catalog.{memo_of, IsMemoOf, HasRoom};
+ghost use Rattle.keeper_jobs.specs.Jobs.{Commits, version_by};
+
+use crate::indexing::{drop_tables, forget_tables};
+use crate::noting::{note_commit, prepare};
+use fp_index::Index;
+use keeper_catalog::{Catalog, JobInfo};
+use keeper_parts::{Halt, commit};
+use std::alloc::Global;
+use vault_traits::{Refused, Shelf};
+use vault_types::Recipe;
+
+/// Commits the recipe of a job: it settles what the job has put, puts the recipe and settles it. All memory but that of
+/// the shelf's put is taken before the first call. After a refusal the index and the memory are those of the state
+/// without the job; the recipe's name is a stray where its put was tried.
+pub fn commit_recipe<S: Shelf>(
+    alloc: Global,
+    shelf: &mut S,
+    catalog: &mut Catalog,
+    index: &mut Index,
+    job: JobInfo,
+    recipe: Recipe,
+) -> Result<(), Halt>
+    requires can { (K : Core) × (j : Job) × Commits (memo_of catalog.old) index.old job recipe K j }
+    requires room { HasRoom (memo_of catalog.old) }
+    ensures memo { OnOk result ((K : Core) (j : Job) → Commits (memo_of catalog.old) index.old job recipe K j → IsMemoOf (memo_of catalog.new) (after_commit (version_by K j recipe) j catalog.new.strays.items K)) }
+    ensures index { OnOk result ((K : Core) (j : Job) → Commits (memo_of catalog.old) index.old job recipe K j → IsIndexOf index.new (map (λ c. c.table) (committed (version_by K j recipe) j K.state).containers)) }
+    ensures held { OnOk result ((K : Core) (j : Job) → Commits (memo_of catalog.old) index.old job recipe K j → HeldIfTold (S.told shelf.old).blobs K
+        → HeldIfTold (S.told shelf.new).blobs (after_commit (version_by K j recipe) j catalog.new.strays.items K)) }
+
+    // A refusal leaves the state, and the job is over.
+    ensures still { OnErr result ((K : Core) (j : Job) (waits : Pendings) → Commits (memo_of catalog.old) index.old job recipe K j → IsMemoOf (memo_of catalog.new) (after_refused None None catalog.new.strays.items waits K)) }
+    ensures same_index { OnErr result ((K : Core) (j : Job) → Commits (memo_of catalog.old) index.old job recipe K j → IsIndexOf index.new (map (λ c. c.table) K.state.containers)) }
+    ensures half { result ≡ Err Halt.Half → (K : Core) (j : Job) → Commits (memo_of catalog.old) index.old job recipe K j → HeldIfTold (S.told shelf.old).blobs K
+        → HeldIfTold (S.told shelf.new).blobs (after_refused (Some (commit_change (version_by K j recipe) j recipe K.state)) None catalog.new.strays.items (pending.FailedFor job.set) K) }
+    ensures before { (r : Refused) → result ≡ Err (Halt.Before r) → (K : Core) (j : Job) (waits : Pendings) → Commits (memo_of catalog.old) index.old job recipe K j → HeldIfTold (S.told shelf.old).blobs K
+        → HeldIfTold (S.told shelf.new).blobs (after_refused None None catalog.new.strays.items waits K) }
+    ensures tells { IsSome (S.told shelf.old).blobs → IsSome (S.told shelf.new).blobs }
+    ensures room { HasRoom (memo_of catalog.new) }
+
+    // A crash at any moment leaves the state from before or the one after; at `Ok` only the one after, and where the
+    // recipe's put was not tried only the one from before.
+    ensures any_moment { (K : Core) (j : Job) → Commits (memo_of catalog.old) index.old job recipe K j → HeldIfTold (S.told shelf.old).blobs K → LeavesNowIfTold (S.told shelf.old).history (IsNear K.state None)
+        → LeavesOnlyIfTold (S.told shelf.old).history (S.told shelf.new).history (IsNear K.state (Some (commit_change (version_by K j recipe) j recipe K.state))) }
+    ensures acknowledged { OnOk result ((K : Core) (j : Job) → Commits (memo_of catalog.old) index.old job recipe K j → HeldIfTold (S.told shelf.old).blobs K
+        → LeavesNowIfTold (S.told shelf.new).history (IsNear (committed (version_by K j recipe) j K.state) None)) }
+    ensures untried { (r : Refused) → result ≡ Err (Halt.Before r) → (K : Core) (j : Job) → Commits (memo_of catalog.old) index.old job recipe K j → LeavesNowIfTold (S.told shelf.old).history (IsNear K.state None)
+        → LeavesOnlyIfTold (S.told shelf.old).history (S.told shelf.new).history (IsNear K.state None) }
+    ensures gets { (S.told shelf.new).gets ≡ (S.told shelf.old).gets }
+    ensures later { (S.told shelf.old).faults ≤ (S.told shelf.new).faults }
+    ensures failed_half { result ≡ Err Halt.Half → Rose (S.told shelf.old).faults (S.told shelf.new).faults }
+    ensures failed_before { result ≡ Err (Halt.Before Refused.Failed) → Rose (S.told shelf.old).faults (S.told shelf.new).faults }
+{
+    let Ok((ids, blob)) = prepare(alloc, catalog, index, job, &recipe) else {
+        forget_tables(&mut catalog.tables, job.first, job.next);
+        return Err(Halt::Before(Refused::Memory));
+    };
+    match commit(alloc, shelf, job.set, recipe.version, &blob) {
+        Ok(()) => {
+            note_commit(catalog, job, recipe, &ids);
+            Ok(())
+        }
+        Err(halt) => {
+            drop_tables(index, &catalog.tables, job.first, job.next);
+            forget_tables(&mut catalog.tables, job.first, job.next);
+            if let Halt::Before(_) = halt {
+                catalog.strays.pop();
+            }
+            Err(halt)
+        }
+    }
+}

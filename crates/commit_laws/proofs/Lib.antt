@@ -1,0 +1,9 @@
+pub mod Listing
+pub mod Growing
+pub mod Committing
+pub mod Looking
+pub mod Marking
+pub mod Holding
+pub mod Pinned
+pub mod Putting
+pub mod Unique

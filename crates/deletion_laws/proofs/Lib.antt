@@ -1,0 +1,11 @@
+pub mod Members
+pub mod Shrinking
+pub mod Keeping
+pub mod Steps
+pub mod Marking
+pub mod Indexing
+pub mod Tabling
+pub mod Going
+pub mod Pinning
+pub mod Releasing
+pub mod Removing

@@ -1,0 +1,3 @@
+pub mod Deleting
+pub mod Releasing
+pub mod Removal

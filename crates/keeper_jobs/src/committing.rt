@@ -1,15 +1,16 @@
 //! The commit of a recipe.
-ghost use Rattle.std.specs.Prelude.{◌≡◌, ◌≤◌, ◌<◌, Err, OnOk, OnErr, IsSome, Some, None, map};
+ghost use Rattle.std.specs.Prelude.{◌≡◌, ◌≤◌, ◌<◌, ◌-◌, ◌++◌, ◌&&◌, ℕ, List, nat_le, nat_lt, length, if◌then◌else◌, Err, OnOk, OnErr, IsSome, Some, None, map};
+ghost use Rattle.std.specs.List.{AllByRecursion};
+ghost use Rattle.vault_types.specs.declared.Table.{Table as TableOf};
 ghost use Rattle.vault_types.specs.Events.{Core, Job, IsNear, after_commit, after_refused, committed, commit_change};
 ghost use Rattle.vault_types.specs.declared.Pending.{Pending as Pendings};
 ghost use Rattle.vault_types.specs.declared.Pending.TheVariants as pending;
-ghost use Rattle.vault_types.specs.Blobs.{IsRecipe};
 ghost use Rattle.fp_index.specs.Index.{IsIndexOf};
 ghost use Rattle.vault_traits.specs.Counts.{Rose};
 ghost use Rattle.vault_traits.specs.Crash.{LeavesNowIfTold, LeavesOnlyIfTold};
 ghost use Rattle.keeper_parts.specs.Parts.{HeldIfTold};
-ghost use Rattle.keeper_catalog.specs.Catalog.{memo_of, IsMemoOf, HasRoom};
-ghost use Rattle.keeper_jobs.specs.Jobs.{Commits, version_by};
+ghost use Rattle.keeper_catalog.specs.Catalog.{memo_of, table_at, IsMemoOf, HasRoom};
+ghost use Rattle.keeper_jobs.specs.Jobs.{tables_from, AreKeyed, Commits, version_by};
 
 use crate::indexing::{drop_tables, forget_tables};
 use crate::noting::{note_commit, prepare};
@@ -19,6 +20,19 @@ use keeper_parts::{Halt, commit};
 use std::alloc::Global;
 use vault_traits::{Refused, Shelf};
 use vault_types::Recipe;
+
+// Lets the job's tables go from the index, which has them behind those of smaller ids, and from memory.
+fn take_back(catalog: &mut Catalog, index: &mut Index, job: JobInfo)
+    requires range { job.first ≤ job.next }
+    requires keyed { AreKeyed catalog.old.tables.entries }
+    ensures index { (known : List TableOf) → AllByRecursion (λ t. t.id < job.first) known → IsIndexOf index.old (known ++ tables_from catalog.old.tables.entries job.first (job.next - job.first)) → IsIndexOf index.new known }
+    ensures gone { (id : ℕ) → table_at catalog.new.tables.entries id ≡ (if nat_le job.first id && nat_lt id job.next then None else table_at catalog.old.tables.entries id) }
+    ensures fewer { length catalog.new.tables.entries ≤ length catalog.old.tables.entries }
+    ensures same { (catalog.new.sets ≡ catalog.old.sets) × (catalog.new.markers ≡ catalog.old.markers) × (catalog.new.strays ≡ catalog.old.strays) × (catalog.new.freed ≡ catalog.old.freed) }
+{
+    drop_tables(index, &catalog.tables, job.first, job.next);
+    forget_tables(&mut catalog.tables, job.first, job.next);
+}
 
 /// Commits the recipe of a job: it settles what the job has put, puts the recipe and settles it. All memory but that of
 /// the shelf's put is taken before the first call. After a refusal the index and the memory are those of the state
@@ -70,13 +84,14 @@ pub fn commit_recipe<S: Shelf>(
             note_commit(catalog, job, recipe, &ids);
             Ok(())
         }
-        Err(halt) => {
-            drop_tables(index, &catalog.tables, job.first, job.next);
-            forget_tables(&mut catalog.tables, job.first, job.next);
-            if let Halt::Before(_) = halt {
-                catalog.strays.pop();
-            }
-            Err(halt)
+        Err(Halt::Before(refused)) => {
+            take_back(catalog, index, job);
+            catalog.strays.pop();
+            Err(Halt::Before(refused))
+        }
+        Err(Halt::Half) => {
+            take_back(catalog, index, job);
+            Err(Halt::Half)
         }
     }
 }

@@ -106,7 +106,7 @@ returns-in-Err-Before-clause-same_index g c K j cm =
 
 pub returns-in-Err-Before-clause-before : goal.returns-in-Err-Before-clause-before
 returns-in-Err-Before-clause-before g c r e K j waits cm held =
-    before_held _ _ _ _ K j cm _ waits (popped c.args.catalog.now.strays.items _ _ _ (ap (λ v. v.items) c.take_back.ensures.same.2 ∙ c.in-Ok.ensures.strays) (c.pop.ensures.rest ∙ ap (λ n. take (n - 1) c.take_back.new.catalog.strays.items) c.take_back.new.catalog.strays.ok.0)) _ _ (c.in-Err-Before.ensures.before c.in-Err-Before.refused refl) held
+    before_held _ _ _ _ K j cm _ waits (popped c.args.catalog.now.strays.items _ _ _ (ap (λ v. v.items) c.take_back.ensures.same.2 ∙ c.in-Ok.ensures.strays) (c.pop.ensures.rest ∙ ap (λ n. take (n - 1) c.take_back.new.catalog.strays.items) c.take_back.new.catalog.strays.ok.0)) _ _ (c.in-Err-Before.ensures.before c.in-Err-Before.refused (ap Err c.in-Err-Before.field-0-is)) held
 
 pub returns-in-Err-Before-clause-any_moment : goal.returns-in-Err-Before-clause-any_moment
 returns-in-Err-Before-clause-any_moment g c K j cm held here =

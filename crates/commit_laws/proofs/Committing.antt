@@ -1,6 +1,6 @@
 -- A commit keeps a core, and is a change of it.
-use Rattle.std.proofs.Common.{◌≡◌, ◌≢◌, ℕ, zero, suc, ◌+◌, ◌<◌, ◌≤◌, ◌⊎◌, inl, inr, ⊎_elim, Bool, true, false, length, map, max, List, [], ◌∷◌, ◌++◌, Option, Some, None, refl, sym, ap, ◌∙◌, subst, arith}
-use Rattle.std.specs.Prelude.{Contains, IsSome, IfSome, IsSomeAnd, IsTrue, slice_set, slice_index_or, fold, unwrap_or}
+use Rattle.std.proofs.Common.{◌≡◌, ◌≢◌, ℕ, ◌<◌, ◌≤◌, ◌⊎◌, inl, inr, ⊎_elim, true, length, map, List, ◌++◌, Option, Some, None, refl, sym, ap, ◌∙◌, subst, arith}
+use Rattle.std.specs.Prelude.{Contains, IsSome, IfSome, IsSomeAnd, IsTrue}
 use Rattle.std.specs.Option.{option_or}
 use Rattle.std.specs.List.{AllByRecursion, range_with_len}
 use Rattle.std.proofs.lemmas.List.{map-append, length-set}
@@ -8,20 +8,17 @@ use Rattle.std.proofs.lemmas.List.Elements.{Contains-append_left, Contains-appen
 use Rattle.vault_types.specs.declared.Name.{Name}
 use Rattle.vault_types.specs.declared.Row.{Row}
 use Rattle.vault_types.specs.declared.Recipe.{Recipe}
-use Rattle.vault_types.specs.declared.Pending.{Pending}
-use Rattle.vault_types.specs.declared.Pending.TheVariants as pending
 use Rattle.vault_types.specs.Lists.{has, set_of, IsAscending}
 use Rattle.vault_types.specs.Names.{fp}
 use Rattle.vault_types.specs.Tables.{Container, id_of, has_fp, IsTable}
-use Rattle.vault_types.specs.State.{State, Dataset, KeptVersion, dataset, latest_of, floor_of, next_of, next_in, all_rows, named, container_in, HasFp, IsDataset, IsValid}
+use Rattle.vault_types.specs.State.{State, KeptVersion, dataset, next_of, next_in, all_rows, named, container_in, HasFp, IsDataset, IsValid}
 use Rattle.vault_types.specs.Bytes.{row_bytes}
-use Rattle.vault_types.specs.Events.{Core, Job, Change, Pin, put_by, pinned_containers, version_in_recipe, CanCommit, committed, after_commit, commit_change, IsChange, IsCore}
+use Rattle.vault_types.specs.Events.{Core, Job, put_by, version_in_recipe, CanCommit, committed, after_commit, commit_change, IsChange, IsCore}
 use Rattle.vault_types.proofs.SetLemmas.{has-set_of, IsAscending-set_of, ascending_unique}
 use Rattle.vault_types.proofs.StateLemmas.{row_ids}
-use Rattle.vault_types.proofs.GrowLemmas.{container_in-more}
 use Rattle.vault_types.proofs.NextLemmas.{ids_below}
 use Rattle.container_fill.proofs.SumLemmas.{fp-is_fp}
-use Rattle.keeper_parts.proofs.Growing.{floor_same, sets_same}
+use Rattle.keeper_parts.proofs.Growing.{floor_same}
 use Rattle.commit_laws.proofs.Listing.{all_append, all_set, all_weaker, all_at, all_map, all_unmap, has_of, contains_of, has_both, themselves, ascending_append, range_low, range_ascends, found_append, found_is, none_where}
 use Rattle.commit_laws.proofs.Growing.{more_of, next_more, more_dataset, whole_fp, whole_empty, dataset_at, next_in_low, next_set, rows_with, ids_kept, ids_new, has_fp_more}
 
@@ -48,6 +45,20 @@ module _ (K : Core) (job : Job) (core : IsCore K) (open_job : K.job ≡ Some job
   -- an id below the job's is none of them
   pub not_in_job : (id : ℕ) → id < next_of K.state → container_in job.containers id ≡ None
   not_in_job id below = none_where job.containers id (all_weaker (λ c. next_of K.state ≤ c.table.id) (λ c. c.table.id ≢ id) job.containers (λ c high same. omega (arith, high, same)) job_low)
+
+-- a row whose fingerprint is in a table names that container
+
+pub found_named : (cs : List Container) (q : Row) → HasFp cs q → has q.id (map id_of cs) ≡ true
+found_named cs q there = at (container_in cs q.id) refl there
+  where
+    at : (o : Option Container) → container_in cs q.id ≡ o → IsSomeAnd o (λ c. IsTrue (has_fp q.fp c.table)) → has q.id (map id_of cs) ≡ true
+    at None is none = absurd none
+    at (Some c) is some =
+        let found = found_is cs q.id c is in
+        subst (λ (j : ℕ). has j (map id_of cs) ≡ true) found.1 (has_of c.table.id (map id_of cs) (all_at (λ (c : Container). Contains (map id_of cs) c.table.id) cs c (each cs) found.0))
+      where
+        each : (cs : List Container) → AllByRecursion (λ c. Contains (map id_of cs) c.table.id) cs
+        each cs = all_unmap id_of (Contains (map id_of cs)) cs (themselves (map id_of cs))
 
 -- the state after the commit
 
@@ -76,18 +87,6 @@ module _ (K : Core) (job : Job) (r : Recipe) (core : IsCore K) (can : CanCommit 
   of_all : (j : ℕ) → has j (map id_of (K.state.containers ++ job.containers)) ≡ true → Contains (map id_of K.state.containers) j ⊎ Contains (map id_of job.containers) j
   of_all j h = Contains-append_cases (map id_of K.state.containers) (map id_of job.containers) j
       (subst (λ (l : List ℕ). Contains l j) (map-append id_of K.state.containers job.containers) (contains_of j (map id_of (K.state.containers ++ job.containers)) h))
-
-  found_named : (cs : List Container) (q : Row) → HasFp cs q → has q.id (map id_of cs) ≡ true
-  found_named cs q there = at (container_in cs q.id) refl there
-    where
-      at : (o : Option Container) → container_in cs q.id ≡ o → IsSomeAnd o (λ c. IsTrue (has_fp q.fp c.table)) → has q.id (map id_of cs) ≡ true
-      at None is none = absurd none
-      at (Some c) is some =
-          let found = found_is cs q.id c is in
-          subst (λ (j : ℕ). has j (map id_of cs) ≡ true) found.1 (has_of c.table.id (map id_of cs) (all_at (λ (c : Container). Contains (map id_of cs) c.table.id) cs c (each cs) found.0))
-        where
-          each : (cs : List Container) → AllByRecursion (λ c. Contains (map id_of cs) c.table.id) cs
-          each cs = all_unmap id_of (Contains (map id_of cs)) cs (themselves (map id_of cs))
 
   named_in_all : (j : ℕ) → has j (row_ids (all_rows (committed version job K.state).datasets)) ≡ true → has j (map id_of (K.state.containers ++ job.containers)) ≡ true
   named_in_all j h = all_at (λ (m : ℕ). has m (map id_of (K.state.containers ++ job.containers)) ≡ true) (row_ids (all_rows (committed version job K.state).datasets)) j

@@ -1,20 +1,20 @@
 -- A dataset with one more version, and what the rows of all versions name then.
-use Rattle.std.proofs.Common.{◌≡◌, ◌≢◌, ℕ, zero, suc, ◌+◌, ◌<◌, ◌≤◌, ◌⊎◌, inl, inr, ⊎_elim, Bool, true, false, length, map, max, List, [], ◌∷◌, ◌++◌, Option, Some, None, refl, sym, ap, ◌∙◌, subst, arith, length-append}
+use Rattle.std.proofs.Common.{◌≡◌, ℕ, zero, suc, ◌+◌, ◌<◌, ◌≤◌, ◌⊎◌, ⊎_elim, length, map, max, List, [], ◌∷◌, ◌++◌, Option, Some, None, refl, sym, ap, ◌∙◌, subst, arith, length-append}
 use Rattle.std.specs.Prelude.{Contains, IfSome, IsSomeAnd, IsTrue, slice_set, slice_index_or, flat_map, fold, option_map, unwrap_or}
 use Rattle.std.specs.Option.{option_map_or}
 use Rattle.std.specs.List.{AllByRecursion, last_or}
-use Rattle.std.proofs.lemmas.List.{map-append, map-set, length-set}
+use Rattle.std.proofs.lemmas.List.{map-append, map-set}
 use Rattle.std.proofs.lemmas.List.Elements.{Contains-append_left, Contains-append_right, Contains-append_cases}
 use Rattle.sha1.specs.Sha1.{sha1}
 use Rattle.vault_types.specs.declared.Fp.{Fp}
 use Rattle.vault_types.specs.declared.Row.{Row}
-use Rattle.vault_types.specs.Lists.{has, set_of, IsAscending, EachNext}
+use Rattle.vault_types.specs.Lists.{has, EachNext}
 use Rattle.vault_types.specs.Names.{fp, IsFp}
-use Rattle.vault_types.specs.Tables.{Container, id_of, has_fp}
+use Rattle.vault_types.specs.Tables.{Container, has_fp}
 use Rattle.vault_types.specs.State.{State, Dataset, KeptVersion, dataset, empty_dataset, latest_in, next_in, next_of, all_rows, container_in, HasRecipeRules, IsDataset, HasFp}
 use Rattle.vault_types.proofs.StateLemmas.{row_ids}
 use Rattle.vault_types.proofs.GrowLemmas.{container_in-more}
-use Rattle.commit_laws.proofs.Listing.{all_append, all_left, all_right, all_weaker, all_unmap, fold_below, fold_set, no_member, contains_of, has_of}
+use Rattle.commit_laws.proofs.Listing.{all_append, all_left, all_right, all_weaker, all_unmap, fold_below, fold_set, no_member}
 
 -- the dataset with the version
 abbrev pub more_of : Dataset → KeptVersion → Dataset

@@ -1,5 +1,5 @@
 -- What the shelf holds over a commit, over one that failed, and over one that wrote nothing.
-use Rattle.std.proofs.Common.{◌≡◌, ◌≢◌, ℕ, ◌+◌, ◌^◌, ◌<◌, ◌≤◌, ◌⊎◌, inl, inr, ⊎_elim, length, map, true, false, List, [], ◌∷◌, ◌++◌, Option, Some, None, refl, sym, ap, ◌∙◌, subst, arith}
+use Rattle.std.proofs.Common.{◌≡◌, ℕ, ◌+◌, ◌^◌, ◌<◌, ◌⊎◌, inl, inr, ⊎_elim, length, true, false, List, [], ◌++◌, Option, Some, None, refl, sym, ap, ◌∙◌, subst, arith}
 use Rattle.std.specs.Prelude.{Contains, IsSome, IfSome, IsSomeAnd, unwrap_or}
 use Rattle.std.specs.Option.{option_map_or}
 use Rattle.std.proofs.lemmas.List.Elements.{Contains-append_left, Contains-append_right, Contains-append_cases}
@@ -11,11 +11,11 @@ use Rattle.vault_types.specs.declared.Pending.{Pending}
 use Rattle.vault_types.specs.declared.Pending.TheVariants as pending
 use Rattle.vault_types.specs.Names.{fp}
 use Rattle.vault_types.specs.Tables.{Container}
-use Rattle.vault_types.specs.State.{State, KeptVersion, latest_of, floor_of, version_of, recipe_of, length_of, IsValid}
-use Rattle.vault_types.specs.Bytes.{row_bytes, bytes_of}
-use Rattle.vault_types.specs.Blobs.{recipe_bytes, recipe_bytes_1, recipe_bytes_2, IsRecipe}
-use Rattle.vault_types.specs.Shelf.{Blobs, with_blob, recipe_name, floor_name, HasContainer, IsFloorBlob, IsRecipeBlob, Stands}
-use Rattle.vault_types.specs.Events.{Core, Job, Change, put_by, pinned_containers, version_in_recipe, CanCommit, committed, after_commit, after_refused, commit_change, IsContainerName, IsRecipeName, IsFloorName, IsNeeded, IsNear, HasChange, IsCore, Held}
+use Rattle.vault_types.specs.State.{State, KeptVersion, latest_of, floor_of, version_of, recipe_of, IsValid}
+use Rattle.vault_types.specs.Bytes.{row_bytes}
+use Rattle.vault_types.specs.Blobs.{recipe_bytes, recipe_bytes_1, recipe_bytes_2}
+use Rattle.vault_types.specs.Shelf.{Blobs, with_blob, recipe_name, floor_name, IsFloorBlob, IsRecipeBlob, Stands}
+use Rattle.vault_types.specs.Events.{Core, Job, Change, put_by, pinned_containers, version_in_recipe, CanCommit, committed, after_commit, after_refused, commit_change, IsNeeded, HasChange, IsCore, Held}
 use Rattle.vault_types.proofs.GrowLemmas.{version_of-new}
 use Rattle.vault_traits.specs.Shelf.{blobs_with}
 use Rattle.vault_traits.proofs.Maps.{get_other, get_is, is_or_not, written_or_other, with_blob_twice}
@@ -96,7 +96,7 @@ module _ (K : Core) (job : Job) (r : Recipe) (core : IsCore K) (can : CanCommit 
       at None is = inr (
         ap (λ (o : Option Fp). Some (option_map_or (λ x. recipe_bytes_2 x r) o (recipe_bytes_1 r))) is ∙ ap (λ (b : List ℕ). Some b) one_bytes,
         ap (λ (o : Option Fp). unwrap_or o (fp (row_bytes (K.state.containers ++ job.containers) r.rows))) is
-        ∙ ap fp (sym (ap (λ (o : Option KeptVersion). option_map_or (λ k. row_bytes after.containers k.rows) o []) said_is)),
+            ∙ ap fp (sym (ap (λ (o : Option KeptVersion). option_map_or (λ k. row_bytes after.containers k.rows) o []) said_is)),
       )
 
 module _ (K : Core) (job : Job) (r : Recipe) (k : KeptVersion) (core : IsCore K) (can : CanCommit K job r) (is : k ≡ version_in_recipe (K.state.containers ++ job.containers) r) where

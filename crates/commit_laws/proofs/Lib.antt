@@ -7,3 +7,4 @@ pub mod Holding
 pub mod Pinned
 pub mod Putting
 pub mod Unique
+pub mod Loading

@@ -1,6 +1,6 @@
 -- Lists of containers and of numbers: what holds of each element, what is among them, and what is found under an id.
-use Rattle.std.proofs.Common.{◌≡◌, ◌≢◌, ℕ, zero, suc, ◌+◌, ◌<◌, ◌≤◌, ◌⊎◌, inl, inr, ⊎_elim, Bool, true, false, cond, ◌||◌, length, map, max, List, [], ◌∷◌, ◌++◌, Option, Some, None, refl, sym, ap, ◌∙◌, subst, arith}
-use Rattle.std.specs.Prelude.{Contains, slice_set, slice_index_or, nat_eq, fold, ◌==◌}
+use Rattle.std.proofs.Common.{◌≡◌, ◌≢◌, ℕ, zero, suc, ◌+◌, ◌<◌, ◌≤◌, Bool, true, false, cond, ◌||◌, length, map, max, List, [], ◌∷◌, ◌++◌, Option, Some, None, refl, sym, ap, ◌∙◌, subst, arith}
+use Rattle.std.specs.Prelude.{Contains, slice_set, nat_eq, fold, ◌==◌}
 use Rattle.std.specs.Option.{option_or}
 use Rattle.std.specs.List.{AllByRecursion, range_with_len}
 use Rattle.std.proofs.lemmas.Bool.Decides.{nat_tests}
@@ -66,7 +66,7 @@ themselves xs = all_of (Contains xs) xs (λ x there. there)
 
 -- numbers that are there
 
-same_number : (k n : ℕ) → nat_eq k n ≡ true → n ≡ k
+pub same_number : (k n : ℕ) → nat_eq k n ≡ true → n ≡ k
 same_number k n e = grind (arith, nat_tests)
 
 pub itself : (k : ℕ) → nat_eq k k ≡ true
@@ -146,8 +146,8 @@ found_each [] up = tt
 found_each (d ∷ cs) up = (
   ap (λ b. cond b (Some d) (container_in cs d.table.id)) (same d.table.id),
   all_both (λ c. d.table.id < c.table.id) (λ c. container_in cs c.table.id ≡ Some c) (λ c. container_in (d ∷ cs) c.table.id ≡ Some c) cs
-  (λ c less there. ap (λ b. cond b (Some d) (container_in cs c.table.id)) (below d.table.id c.table.id less) ∙ there)
-  (all_unmap id_of (λ m. d.table.id < m) cs up.0) (found_each cs up.1),
+      (λ c less there. ap (λ b. cond b (Some d) (container_in cs c.table.id)) (below d.table.id c.table.id less) ∙ there)
+      (all_unmap id_of (λ m. d.table.id < m) cs up.0) (found_each cs up.1),
 )
   where
     same : (a : ℕ) → (a == a) ≡ true

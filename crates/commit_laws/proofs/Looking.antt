@@ -1,13 +1,13 @@
 -- The tables in memory over a commit.
-use Rattle.std.proofs.Common.{◌≡◌, ℕ, ◌<◌, ◌≤◌, List, [], ◌∷◌, ◌++◌, Option, Some, None, refl, sym, ap, ◌∙◌, subst, arith}
-use Rattle.std.specs.Prelude.{Contains, option_map}
+use Rattle.std.proofs.Common.{◌≡◌, ℕ, List, [], ◌++◌, Option, Some, None, refl, sym, ap, ◌∙◌, arith}
+use Rattle.std.specs.Prelude.{option_map}
 use Rattle.std.specs.Option.{option_or}
 use Rattle.vault_types.specs.declared.Name.{Name}
 use Rattle.vault_types.specs.declared.Table.{Table}
 use Rattle.vault_types.specs.Tables.{Container}
-use Rattle.vault_types.specs.State.{State, KeptVersion, next_of, container_in}
+use Rattle.vault_types.specs.State.{KeptVersion, container_in}
 use Rattle.vault_types.specs.Events.{Core, Job, put_by, pinned_containers, after_commit, IsCore}
-use Rattle.keeper_catalog.specs.Catalog.{listed, table_at, AreTables}
+use Rattle.keeper_catalog.specs.Catalog.{listed, AreTables}
 use Rattle.commit_laws.proofs.Listing.{found_append, found_is}
 use Rattle.commit_laws.proofs.Committing.{not_in_job}
 

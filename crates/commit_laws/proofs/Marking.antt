@@ -1,21 +1,20 @@
 -- The markers and the sets in memory over a commit.
-use Rattle.std.proofs.Common.{◌≡◌, ℕ, ◌+◌, ◌<◌, ◌≤◌, ◌⊎◌, inl, inr, ⊎_elim, length, map, List, [], ◌∷◌, ◌++◌, Option, Some, None, refl, sym, ap, ◌∙◌, subst, arith}
-use Rattle.std.specs.Prelude.{Contains, slice_set}
-use Rattle.std.specs.List.{AllByRecursion}
-use Rattle.std.proofs.lemmas.List.{map-set}
+use Rattle.std.proofs.Common.{◌≡◌, ℕ, ◌+◌, ◌-◌, ◌<◌, ◌≤◌, ⊎_elim, length, map, List, ◌++◌, Option, Some, None, refl, sym, ap, ◌∙◌, subst, arith}
+use Rattle.std.specs.Prelude.{Contains, slice_set, slice_index_or}
+use Rattle.std.proofs.lemmas.List.{map-set, get_or-map, length-map}
+use Rattle.std.proofs.lemmas.List.Sums.{sum_by-set}
 use Rattle.std.proofs.lemmas.List.Elements.{Contains-append_left, Contains-append_right, Contains-append_cases}
 use Rattle.vault_types.specs.declared.Row.{Row}
 use Rattle.vault_types.specs.declared.Recipe.{Recipe}
-use Rattle.vault_types.specs.Lists.{has, set_of}
+use Rattle.vault_types.specs.Lists.{set_of}
 use Rattle.vault_types.specs.Marks.{Mark, marks_of}
-use Rattle.vault_types.specs.Tables.{Container}
-use Rattle.vault_types.specs.State.{State, Dataset, KeptVersion, dataset, floor_of, latest_of, version_of, IsValid}
-use Rattle.vault_types.specs.Events.{Core, Job, version_in_recipe, committed}
+use Rattle.vault_types.specs.State.{State, Dataset, KeptVersion, dataset, empty_dataset, floor_of, latest_in, latest_of, version_of, IsValid}
+use Rattle.vault_types.specs.Events.{Job, committed}
 use Rattle.vault_types.proofs.SetLemmas.{has-set_of}
 use Rattle.vault_types.proofs.GrowLemmas.{version_of-new, version_of-kept}
 use Rattle.keeper_parts.proofs.Growing.{floor_pos, version_back}
 use Rattle.keeper_catalog.specs.declared.SetInfo.{SetInfo}
-use Rattle.keeper_catalog.specs.Catalog.{set_info, Names, AreMarks}
+use Rattle.keeper_catalog.specs.Catalog.{set_info, versions_in, Names, AreMarks}
 use Rattle.commit_laws.proofs.Listing.{all_at, all_map, all_unmap, all_weaker, themselves, has_of, contains_of}
 use Rattle.commit_laws.proofs.Growing.{more_of, next_more, sparse_more, latest_more}
 
@@ -85,3 +84,25 @@ commit_sets S job r k valid next sparse number =
     let few = sparse_more d k ∙ sparse in
     map-set set_info S.datasets job.set (more_of d k)
     ∙ ap (slice_set (map set_info S.datasets) job.set) (λ i. record { floor = floor_of S job.set; latest = latest i; next = first i; sparse = few i })
+
+-- one more version is kept
+
+added : (a b x y : ℕ) → a + x ≡ b + y → y ≡ x + 1 → a ≡ b + 1
+added a b x y e f = omega (arith, e, f)
+
+abbrev kept : SetInfo → ℕ
+kept i = i.latest + 1 - i.floor
+
+pub commit_versions : (S : State) (job : Job) (k : KeptVersion) → IsValid S → job.set < length S.datasets → versions_in (map set_info (committed k job S).datasets) ≡ versions_in (map set_info S.datasets) + 1
+commit_versions S job k valid below =
+    let d : Dataset = dataset S job.set in
+    let low : 1 ≤ d.floor = floor_pos S job.set valid in
+    let latest : latest_in (more_of d k) ≡ latest_in d + 1 = latest_more d k low in
+    let there : slice_index_or (map set_info S.datasets) job.set (set_info empty_dataset) ≡ set_info d = get_or-map set_info S.datasets job.set empty_dataset (set_info empty_dataset) below in
+    ap versions_in (map-set set_info S.datasets job.set (more_of d k))
+    ∙ added (versions_in (slice_set (map set_info S.datasets) job.set (set_info (more_of d k)))) (versions_in (map set_info S.datasets)) (kept (slice_index_or (map set_info S.datasets) job.set (set_info empty_dataset))) (kept (set_info (more_of d k)))
+    (sum_by-set kept (map set_info S.datasets) job.set (set_info (more_of d k)) (set_info empty_dataset) (omega (arith, length-map S.datasets set_info)))
+    (counted d low latest ∙ ap (λ (i : SetInfo). kept i + 1) (sym there))
+  where
+    counted : (d : Dataset) → 1 ≤ d.floor → latest_in (more_of d k) ≡ latest_in d + 1 → latest_in (more_of d k) + 1 - d.floor ≡ latest_in d + 1 - d.floor + 1
+    counted d low latest = omega (arith, latest)

@@ -1,28 +1,27 @@
 -- A pin keeps a core, the tables in memory and what the shelf holds.
-use Rattle.std.proofs.Common.{◌≡◌, ◌≢◌, ℕ, ◌+◌, ◌<◌, ◌≤◌, ◌⊎◌, inl, inr, ⊎_elim, Bool, true, false, cond, ◌||◌, length, map, List, [], ◌∷◌, ◌++◌, Option, Some, None, refl, sym, ap, ◌∙◌, subst, arith}
-use Rattle.std.specs.Prelude.{Contains, IsSome, IfSome, IsSomeAnd, nat_eq, filter, flat_map, option_map, ◌==◌}
+use Rattle.std.proofs.Common.{◌≡◌, ℕ, ◌+◌, ◌<◌, ◌⊎◌, inl, inr, ⊎_elim, Bool, true, false, cond, map, List, [], ◌∷◌, ◌++◌, Option, Some, None, refl, sym, ap, ◌∙◌, subst}
+use Rattle.std.specs.Prelude.{Contains, IfSome, nat_eq, filter, ◌==◌}
 use Rattle.std.specs.Option.{option_or}
-use Rattle.std.specs.List.{AllByRecursion, IsDistinct}
+use Rattle.std.specs.List.{IsDistinct}
 use Rattle.std.specs.Cmp.{nat_eq_equiv}
 use Rattle.std.proofs.lemmas.List.{map-append, flat_map_more}
 use Rattle.std.proofs.lemmas.List.Elements.{Contains-append_left, Contains-append_right, Contains-append_cases}
 use Rattle.std.proofs.lemmas.Map.Keys.{IsDistinct-push}
-use Rattle.std.specs.FinMap as fin
 use Rattle.vault_types.specs.declared.Name.{Name}
 use Rattle.vault_types.specs.declared.Table.{Table}
 use Rattle.vault_types.specs.declared.Pending.TheVariants as pending
 use Rattle.vault_types.specs.Lists.{has}
-use Rattle.vault_types.specs.Tables.{Container, id_of}
-use Rattle.vault_types.specs.State.{State, KeptVersion, latest_of, next_of, container_in, IsValid}
-use Rattle.vault_types.specs.Shelf.{Blobs, with_blob, table_name, payload_name, recipe_name, floor_name, HasContainer, Stands}
-use Rattle.vault_types.specs.Events.{Core, Change, Job, Pin, put_by, pinned_containers, containers_of, with_pins, after_pin, IsContainerName, IsNeeded, IsNear, HasChange, IsChange, IsCore, Held}
+use Rattle.vault_types.specs.Tables.{Container}
+use Rattle.vault_types.specs.State.{latest_of, next_of, container_in}
+use Rattle.vault_types.specs.Shelf.{Blobs, HasContainer}
+use Rattle.vault_types.specs.Events.{Core, Change, Pin, put_by, pinned_containers, containers_of, IsNeeded, IsNear, HasChange, IsChange, IsCore, Held}
 use Rattle.vault_types.proofs.NextLemmas.{ids_below}
 use Rattle.keeper_parts.specs.Parts.{HeldIfTold}
 use Rattle.keeper_parts.proofs.Standing.{keeps_container, needs_pinned, needs_container}
 use Rattle.keeper_parts.proofs.Changing.{recipe_no_table, recipe_no_payload, floor_no_table, floor_no_payload, told_more}
-use Rattle.keeper_catalog.specs.Catalog.{listed, table_at, AreTables}
+use Rattle.keeper_catalog.specs.Catalog.{listed, AreTables}
 use Rattle.commit_laws.specs.Laws.{pin_with, pinned_core}
-use Rattle.commit_laws.proofs.Listing.{all_at, found_append, found_where, first_of_list, later_of_list}
+use Rattle.commit_laws.proofs.Listing.{all_at, found_append, found_where, later_of_list}
 use Rattle.commit_laws.proofs.Committing.{state_ascends}
 use Rattle.commit_laws.proofs.Looking.{same_tables}
 

@@ -1,6 +1,6 @@
 -- A container that the job puts, and the end of a job without a commit.
 use Rattle.std.proofs.Common.{◌≡◌, ◌≢◌, ℕ, zero, suc, ◌+◌, ◌<◌, ◌≤◌, ◌⊎◌, inl, inr, ⊎_elim, Bool, true, false, cond, ◌&&◌, length, map, List, [], ◌∷◌, ◌++◌, Option, Some, None, refl, sym, ap, ◌∙◌, subst, arith, length-append, add-zero}
-use Rattle.std.specs.Prelude.{Contains, IsSome, IfSome, nat_eq, nat_le, nat_lt, option_map, ◌==◌, if◌then◌else◌}
+use Rattle.std.specs.Prelude.{IsSome, IfSome, nat_eq, nat_le, nat_lt, option_map, ◌==◌, if◌then◌else◌}
 use Rattle.std.specs.Option.{option_or}
 use Rattle.std.specs.List.{AllByRecursion, range_with_len}
 use Rattle.std.proofs.lemmas.Bool.Decides.{nat_tests}
@@ -10,7 +10,7 @@ use Rattle.vault_types.specs.declared.Name.{Name}
 use Rattle.vault_types.specs.declared.Table.{Table}
 use Rattle.vault_types.specs.declared.Pending.{Pending}
 use Rattle.vault_types.specs.Tables.{Container, id_of, IsTable}
-use Rattle.vault_types.specs.State.{State, next_of, container_in}
+use Rattle.vault_types.specs.State.{next_of, container_in}
 use Rattle.vault_types.specs.Bytes.{HasPayload}
 use Rattle.vault_types.specs.Shelf.{Blobs}
 use Rattle.vault_types.specs.Events.{Core, Change, Job, put_by, put_in, pinned_containers, after_put, after_abort, after_refused, IsCore, Held}

@@ -1,12 +1,11 @@
 -- Blobs open as one state at most.
-use Rattle.std.proofs.Common.{◌≡◌, ◌≢◌, ℕ, zero, suc, ◌+◌, ◌-◌, ◌<◌, ◌≤◌, ◌⊎◌, inl, inr, ⊎_elim, Bool, true, false, cond, length, map, List, [], ◌∷◌, ◌++◌, Option, Some, None, refl, sym, ap, ◌∙◌, subst, arith}
-use Rattle.std.specs.Prelude.{Contains, IfSome, slice_get, slice_index_or, nat_lt, flat_map}
+use Rattle.std.proofs.Common.{◌≡◌, ℕ, zero, suc, ◌+◌, ◌-◌, ◌<◌, ◌⊎◌, inl, inr, ⊎_elim, Bool, true, false, cond, length, map, List, [], ◌∷◌, ◌++◌, Option, Some, None, refl, sym, ap, ◌∙◌, subst, arith}
+use Rattle.std.specs.Prelude.{IfSome, slice_get, slice_index_or, nat_lt, flat_map}
 use Rattle.std.specs.Option.{option_map_or}
 use Rattle.std.specs.List.{AllByRecursion, AllZip}
 use Rattle.std.proofs.lemmas.Bool.Decides.{nat_tests}
 use Rattle.std.proofs.lemmas.List.{append-nil}
 use Rattle.std.specs.FinMap as fin
-use Rattle.sha1.specs.Sha1.{sha1}
 use Rattle.vault_types.specs.declared.Fp.{Fp}
 use Rattle.vault_types.specs.declared.Row.{Row}
 use Rattle.vault_types.specs.declared.Recipe.{Recipe}
@@ -14,14 +13,15 @@ use Rattle.vault_types.specs.declared.Table.{Table}
 use Rattle.vault_types.specs.Lists.{set_of}
 use Rattle.vault_types.specs.Names.{fp, IsFp}
 use Rattle.vault_types.specs.Tables.{Container, id_of, IsTable}
-use Rattle.vault_types.specs.State.{State, Dataset, KeptVersion, dataset, empty_dataset, floor_of, latest_of, latest_in, version_in, version_of, recipe_of, length_of, all_rows, HasRecipeRules, IsDataset, IsValid}
-use Rattle.vault_types.specs.Bytes.{row_bytes, bytes_of}
-use Rattle.vault_types.specs.Blobs.{table_bytes, floor_bytes, recipe_bytes, recipe_bytes_1, recipe_bytes_2, IsVersion, IsRecipe, SpellsRecipe}
-use Rattle.vault_types.specs.Shelf.{Blobs, table_name, payload_name, recipe_name, floor_name, HasContainer, IsFloorBlob, IsRecipeBlob, Stands}
+use Rattle.vault_types.specs.State.{State, Dataset, KeptVersion, dataset, empty_dataset, floor_of, version_in, version_of, recipe_of, length_of, all_rows, HasRecipeRules, IsDataset, IsValid}
+use Rattle.vault_types.specs.Bytes.{row_bytes}
+use Rattle.vault_types.specs.Blobs.{table_bytes, floor_bytes, recipe_bytes, recipe_bytes_1, recipe_bytes_2, IsVersion, IsRecipe}
+use Rattle.vault_types.specs.Shelf.{Blobs, table_name, payload_name, recipe_name, floor_name, HasContainer, IsFloorBlob, IsRecipeBlob}
 use Rattle.blob_parts.proofs.Fields.{blob_same}
 use Rattle.container_store.proofs.TableLemmas.{has_widths}
 use Rattle.container_store.proofs.TableField.{table_field}
 use Rattle.recipe_store.proofs.Apart.{recipes_apart, floors_apart}
+use Rattle.keeper_parts.proofs.Changing.{version_low, version_high}
 use Rattle.keeper_catalog.specs.View.{Opens}
 use Rattle.commit_laws.proofs.Listing.{all_of, some_same, none_some}
 use Rattle.commit_laws.proofs.Growing.{dataset_at}
@@ -84,17 +84,41 @@ version_got d i k e =
 
 -- a version of a recipe in either format
 
-abbrev plain_of : ℕ → ℕ → KeptVersion → Recipe
+-- what a recipe in format 1 says of a version
+abbrev pub plain_of : ℕ → ℕ → KeptVersion → Recipe
 plain_of s v k = record { set = s; version = v; next = k.next; length = length_of k.rows; rows = k.rows; sparse = k.sparse; whole = None }
 
-abbrev HasRules : KeptVersion → Type 0
+abbrev pub HasRules : KeptVersion → Type 0
 HasRules k = HasRecipeRules k.next k.rows k.sparse × (IsFp k.sum × (k.rows ≡ [] → k.sum ≡ fp []))
 
-with_whole : (s v : ℕ) (k : KeptVersion) → IsVersion v → HasRules k → IsRecipe (recipe_of s v k)
+pub with_whole : (s v : ℕ) (k : KeptVersion) → IsVersion v → HasRules k → IsRecipe (recipe_of s v k)
 with_whole s v k number rules = record { version = number; total = refl; rules = rules.0; whole = rules.1.0; no_bytes = λ none. ap (λ (f : Fp). f.0) (rules.1.1 none) }
 
-without_whole : (s v : ℕ) (k : KeptVersion) → IsVersion v → HasRules k → IsRecipe (plain_of s v k)
+pub without_whole : (s v : ℕ) (k : KeptVersion) → IsVersion v → HasRules k → IsRecipe (plain_of s v k)
 without_whole s v k number rules = record { version = number; total = refl; rules = rules.0; whole = tt; no_bytes = λ none. tt }
+
+-- of a valid state
+
+pub kept_rules : (S : State) → IsValid S → (s v : ℕ) (k : KeptVersion) → s < length S.datasets → version_of S s v ≡ Some k → HasRules k
+kept_rules S valid s v k below is = by_test (nat_lt v (floor_of S s)) is
+  where
+    d : IsDataset (dataset S s)
+    d = dataset_at S.datasets s below valid.datasets
+
+    by_test : (b : Bool) → cond b None (slice_get (dataset S s).versions (v - (dataset S s).floor)) ≡ Some k → HasRules k
+    by_test true e = absurd (none_some k e)
+    by_test false e = (
+      all_got (λ (k : KeptVersion). HasRecipeRules k.next k.rows k.sparse) (dataset S s).versions (v - (dataset S s).floor) k d.each e,
+      all_got (λ (k : KeptVersion). IsFp k.sum × (k.rows ≡ [] → k.sum ≡ fp [])) (dataset S s).versions (v - (dataset S s).floor) k d.sums e,
+    )
+
+pub kept_number : (S : State) → IsValid S → (s v : ℕ) (k : KeptVersion) → s < length S.datasets → version_of S s v ≡ Some k → IsVersion v
+kept_number S valid s v k below is =
+    let low = version_low S s v k is in
+    let high = version_high S s v k is in
+    let first = (dataset_at S.datasets s below valid.datasets).floor in
+    let last = (dataset_at S.datasets s below valid.datasets).last in
+    (omega arith, omega arith)
 
 -- two versions that differ at most in sums, and those are of the bytes
 record IsAlike (cs ds : List Container) (k l : KeptVersion) : Type 0 where

@@ -1,5 +1,5 @@
 -- What the laws of commits, puts and pins speak of.
-use Rattle.std.specs.Prelude.{◌≡◌, ◌≢◌, ◌⊎◌, ℕ, ◌+◌, Bool, ◌&&◌, List, [], ◌∷◌, ◌++◌, map, length, nat_le, nat_lt, Contains}
+use Rattle.std.specs.Prelude.{◌≡◌, ◌≢◌, ◌⊎◌, ℕ, ◌+◌, Bool, ◌&&◌, List, [], ◌∷◌, ◌++◌, length, nat_le, nat_lt, Contains, IfSome}
 use Rattle.vault_types.specs.declared.Name.{Name}
 use Rattle.vault_types.specs.declared.Recipe.{Recipe}
 use Rattle.vault_types.specs.Tables.{Container}
@@ -7,7 +7,7 @@ use Rattle.vault_types.specs.State.{State, KeptVersion, next_of}
 use Rattle.vault_types.specs.Shelf.{recipe_name}
 use Rattle.vault_types.specs.Events.{Core, Job, Pin, put_by, containers_of, with_pins, version_in_recipe, IsContainerName}
 
--- the version that a recipe says of which the open job commits
+-- the version that a recipe says, with the containers of the state and of the job
 abbrev pub said : Core → Job → Recipe → KeptVersion
 said K job r = version_in_recipe (K.state.containers ++ job.containers) r
 
@@ -31,3 +31,10 @@ pinned_core number s v ids K = with_pins (K.pins ++ pin_with number s v ids K.st
 -- whether an id is one of the open job's
 abbrev pub is_put : Core → ℕ → Bool
 is_put K id = nat_le (next_of K.state) id && nat_lt id (next_of K.state + length (put_by K.job))
+
+-- the recipe says the version, and its sum if it has one
+pub record SaysVersion (r : Recipe) (k : KeptVersion) : Type 0 where
+  pub next : r.next ≡ k.next
+  pub rows : r.rows ≡ k.rows
+  pub sparse : r.sparse ≡ k.sparse
+  pub sum : IfSome r.whole (λ w. w ≡ k.sum)

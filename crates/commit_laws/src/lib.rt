@@ -3,24 +3,25 @@
 //! cites their proofs.
 #![tactic(auto)]
 
-ghost use Rattle.std.specs.Prelude.{◌≡◌, ◌⊎◌, ◌+◌, ◌++◌, [], List, ℕ, length, map, slice_set, nat_eq, false, Option, Some, None, Contains, if◌then◌else◌};
+ghost use Rattle.std.specs.Prelude.{◌≡◌, ◌<◌, ◌⊎◌, ◌+◌, ◌++◌, [], List, ℕ, length, map, slice_set, nat_eq, false, Option, Some, None, Contains, if◌then◌else◌};
+ghost use Rattle.std.specs.FinMap as fin;
 ghost use Rattle.vault_types.specs.declared.Name.{Name};
-ghost use Rattle.vault_types.specs.declared.Pending.{Pending};
 ghost use Rattle.vault_types.specs.declared.Pending.TheVariants as pending;
 ghost use Rattle.vault_types.specs.declared.Recipe.{Recipe};
 ghost use Rattle.vault_types.specs.declared.Table.{Table};
-ghost use Rattle.vault_types.specs.Blobs.{recipe_bytes};
+ghost use Rattle.vault_types.specs.Blobs.{recipe_bytes, SpellsRecipe};
 ghost use Rattle.vault_types.specs.Bytes.{HasPayload};
 ghost use Rattle.vault_types.specs.Events.{Core, Job, CanCommit, Held, IsChange, IsCore, after_abort, after_commit, after_put, after_refused, commit_change, committed};
 ghost use Rattle.vault_types.specs.Lists.{has, set_of};
 ghost use Rattle.vault_types.specs.Marks.{Mark, marks_of};
-ghost use Rattle.vault_types.specs.Shelf.{Blobs, with_blob};
-ghost use Rattle.vault_types.specs.State.{State, floor_of, next_of};
+ghost use Rattle.vault_types.specs.Shelf.{Blobs, recipe_name, with_blob};
+ghost use Rattle.vault_types.specs.State.{KeptVersion, State, floor_of, next_of, version_of, IsValid};
 ghost use Rattle.vault_types.specs.Tables.{Container, IsTable};
+ghost use Rattle.restore_pins.specs.Pins.{IsListOf};
 ghost use Rattle.keeper_parts.specs.Parts.{CanChange, HeldIfTold, change};
-ghost use Rattle.keeper_catalog.specs.Catalog.{AreMarks, AreTables, listed, set_info, table_at};
+ghost use Rattle.keeper_catalog.specs.Catalog.{AreMarks, AreTables, listed, set_info, table_at, versions_in};
 ghost use Rattle.keeper_catalog.specs.View.{Opens};
-ghost use Rattle.commit_laws.specs.Laws.{AreStraysLeft, is_put, name_of, pinned_core, said};
+ghost use Rattle.commit_laws.specs.Laws.{AreStraysLeft, SaysVersion, is_put, name_of, pin_with, pinned_core, said};
 
 /// Where the open job may commit a recipe, the state with the recipe's version and the job's containers is valid and
 /// agrees with what is pinned; its first free id is the recipe's; and a commit that failed may have left just that.
@@ -31,7 +32,7 @@ pub fn commits_keep_a_core()
 {}
 
 /// After a commit the same tables are in memory, the marks are those that were and those of the version, and of its set
-/// the recipe's number, next id and sparse list are known.
+/// the recipe's number, next id and sparse list are known; one version more is kept.
 pub fn commits_keep_the_memory()
     ensures tables { (K : Core) (job : Job) (r : Recipe) (strays : List Name) (tables : List (ℕ × Table)) → IsCore K → CanCommit K job r
         → AreTables tables (listed K) → AreTables tables (listed (after_commit (said K job r) job strays K)) }
@@ -40,6 +41,8 @@ pub fn commits_keep_the_memory()
     ensures sets { (K : Core) (job : Job) (r : Recipe) → IsCore K → CanCommit K job r
         → map set_info (committed (said K job r) job K.state).datasets
         ≡ slice_set (map set_info K.state.datasets) job.set (record { floor = floor_of K.state job.set; latest = r.version; next = r.next; sparse = r.sparse }) }
+    ensures versions { (K : Core) (job : Job) (r : Recipe) → IsCore K → CanCommit K job r
+        → versions_in (map set_info (committed (said K job r) job K.state).datasets) ≡ versions_in (map set_info K.state.datasets) + 1 }
 {}
 
 /// With the recipe's blob the shelf holds the core after the commit, where the recipe's name and those of the job's
@@ -64,6 +67,15 @@ pub fn pins_keep_a_core()
     ensures core { (K : Core) (number set version : ℕ) (ids : List ℕ) → IsCore K → has number (map (λ p. p.number) K.pins) ≡ false → IsCore (pinned_core number set version ids K) }
     ensures tables { (K : Core) (number set version : ℕ) (ids : List ℕ) (tables : List (ℕ × Table)) → IsCore K → AreTables tables (listed K) → AreTables tables (listed (pinned_core number set version ids K)) }
     ensures held { (K : Core) (number set version : ℕ) (ids : List ℕ) (m : Blobs) → IsCore K → Held m K → Held m (pinned_core number set version ids K) }
+{}
+
+/// What a kept version's blob spells says that version, also while a write is half done; a pin with the ids that its rows
+/// name lists just these.
+pub fn kept_recipes_say_their_versions()
+    ensures recipe { (K : Core) (s v : ℕ) (k : KeptVersion) (m : Blobs) (bytes : List ℕ) (r : Recipe) → IsCore K → s < length K.state.datasets → version_of K.state s v ≡ Some k
+        → Held m K → fin.get m (recipe_name s v) ≡ Some bytes → SpellsRecipe s v bytes r → SaysVersion r k }
+    ensures ids { (S : State) (number s v : ℕ) (k : KeptVersion) → IsValid S → version_of S s v ≡ Some k
+        → IsListOf (record { number = number; version = v; ids = set_of (map (λ q. q.id) k.rows) }) (pin_with number s v (set_of (map (λ q. q.id) k.rows)) S) }
 {}
 
 /// A put of a container with the next id keeps a core, and adds its table to those in memory.

@@ -9,3 +9,4 @@ pub mod Going
 pub mod Pinning
 pub mod Releasing
 pub mod Removing
+pub mod Naming

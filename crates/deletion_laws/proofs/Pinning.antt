@@ -137,14 +137,15 @@ pinned_push (q ∷ qs) p c there = ⊎_elim
     (λ rest. ⊎_elim (λ old. inl (Contains-append_right q.containers (pinned_containers qs) c old)) (λ new. inr new) (pinned_push qs p c rest))
     (Contains-append_cases q.containers (pinned_containers (qs ++ p ∷ [])) c there)
 
-pub alike_pin : (K : Core) (number s v : ℕ) (k : KeptVersion) → IsCore K → AreAlike K.pins → AreAlike (K.pins ++ pin_of number s v K.state k ∷ [])
-alike_pin K number s v k core alike c d one two same = ⊎_elim
-    (λ old. ⊎_elim (λ also. alike c d old also same) (λ new. as_state c d old (fresh d new) same) (pinned_push K.pins (pin_of number s v K.state k) d two))
-    (λ new. ⊎_elim (λ old. sym (as_state d c old (fresh c new) (sym same))) (λ also. containers_once K.state core.state c d (fresh c new) (fresh d also) same) (pinned_push K.pins (pin_of number s v K.state k) d two))
-    (pinned_push K.pins (pin_of number s v K.state k) c one)
+-- a pin that lists containers of the state by any ids
+pub alike_more : (K : Core) (p : Pin) (ids : List ℕ) → IsCore K → AreAlike K.pins → p.containers ≡ containers_of K.state.containers ids → AreAlike (K.pins ++ p ∷ [])
+alike_more K p ids core alike lists c d one two same = ⊎_elim
+    (λ old. ⊎_elim (λ also. alike c d old also same) (λ new. as_state c d old (fresh d new) same) (pinned_push K.pins p d two))
+    (λ new. ⊎_elim (λ old. sym (as_state d c old (fresh c new) (sym same))) (λ also. containers_once K.state core.state c d (fresh c new) (fresh d also) same) (pinned_push K.pins p d two))
+    (pinned_push K.pins p c one)
   where
-    fresh : (e : Container) → Contains (containers_of K.state.containers (map (λ r. r.id) k.rows)) e → Contains K.state.containers e
-    fresh e new = filter_within (λ c. has c.table.id (map (λ r. r.id) k.rows)) K.state.containers e new
+    fresh : (e : Container) → Contains p.containers e → Contains K.state.containers e
+    fresh e new = filter_within (λ c. has c.table.id ids) K.state.containers e (subst (λ (l : List Container). Contains l e) lists new)
 
     some_of : (o : Option Container) (e : Container) (P : Container → Type 0) → o ≡ Some e → IfSome o P → P e
     some_of o e P is holds = subst (λ (o : Option Container). IfSome o P) is holds
@@ -155,3 +156,6 @@ alike_pin K number s v k core alike c d one two same = ⊎_elim
         let found = container_in-is K.state.containers f.table.id at.0 at.1 in
         sym (some_of (container_in K.state.containers f.table.id) at.0 (λ (x : Container). x ≡ e) at.1 (subst (λ (i : ℕ). IfSome (container_in K.state.containers i) (λ x. x ≡ e)) same (core.pins e old).1))
         ∙ containers_once K.state core.state at.0 f found.0 there found.1
+
+pub alike_pin : (K : Core) (number s v : ℕ) (k : KeptVersion) → IsCore K → AreAlike K.pins → AreAlike (K.pins ++ pin_of number s v K.state k ∷ [])
+alike_pin K number s v k core alike = alike_more K (pin_of number s v K.state k) (map (λ r. r.id) k.rows) core alike refl

@@ -17,7 +17,7 @@ use Rattle.keeper_parts.proofs.Changing.{told_more}
 use Rattle.keeper_catalog.specs.Catalog.{listed, table_at, AreTables}
 use Rattle.deletion_laws.specs.Deleting.{pinned_ids}
 use Rattle.deletion_laws.specs.Releasing.{released_ids, is_released, IsReleased, AreStraysReleased, AreAlike}
-use Rattle.deletion_laws.proofs.Members.{clash, no_member, of_map, in_map, container_in-none, container_in-is, container_in-some}
+use Rattle.deletion_laws.proofs.Members.{or_left, clash, no_member, of_map, in_map, container_in-none, container_in-is, container_in-some}
 use Rattle.deletion_laws.proofs.Keeping.{container_named}
 use Rattle.deletion_laws.proofs.Tabling.{two_parts}
 use Rattle.deletion_laws.proofs.Going.{same_id, no_recipe, no_floor, name_at}
@@ -64,12 +64,8 @@ released_unnamed K number id h = not_first (has id (released_ids number K.pins))
 pub released_unpinned : (K : Core) (number id : ℕ) → is_released K number id ≡ true → has id (pinned_ids (pins_without number K.pins)) ≡ false
 released_unpinned K number id h = not_second (has id (released_ids number K.pins)) (has id (named K.state)) (has id (pinned_ids (pins_without number K.pins))) h
 
-or_left_true : (a b : Bool) → a ≡ true → (a || b) ≡ true
-or_left_true true b e = refl
-or_left_true false b e = absurd (let c : false ≡ true = e in cc)
-
 pub released_pinned : (K : Core) (number id : ℕ) → is_released K number id ≡ true → has id (pinned_ids K.pins) ≡ true
-released_pinned K number id h = listed_by number id K.pins ∙ or_left_true (has id (released_ids number K.pins)) (has id (pinned_ids (pins_without number K.pins))) (released_listed K number id h)
+released_pinned K number id h = listed_by number id K.pins ∙ or_left (has id (released_ids number K.pins)) (has id (pinned_ids (pins_without number K.pins))) (released_listed K number id h)
 
 module _ (K : Core) (number : ℕ) (core : IsCore K) where
   abbrev S : State
@@ -107,7 +103,7 @@ module _ (K : Core) (number : ℕ) (core : IsCore K) where
         by_listed : has id (named S) ≡ false → has id (pinned_ids (pins_without number K.pins)) ≡ false → (b : Bool) → has id (released_ids number K.pins) ≡ b → option_or (container_in left id) (container_in (put_by K.job) id) ≡ cond (b && (not false && not false)) None (option_or (container_in pinned id) (container_in (put_by K.job) id))
         by_listed none free true e =
             ap (λ (o : Option Container). option_or o (container_in (put_by K.job) id)) (container_in-none left id free)
-            ∙ container_in-none (put_by K.job) id (pinned_not_put K core id (listed_by number id K.pins ∙ or_left_true (has id (released_ids number K.pins)) (has id (pinned_ids (pins_without number K.pins))) e))
+            ∙ container_in-none (put_by K.job) id (pinned_not_put K core id (listed_by number id K.pins ∙ or_left (has id (released_ids number K.pins)) (has id (pinned_ids (pins_without number K.pins))) e))
         by_listed none free false e =
             ap (λ (o : Option Container). option_or o (container_in (put_by K.job) id))
             (container_in-none left id free ∙ sym (container_in-none pinned id (listed_by number id K.pins ∙ ap (λ (b : Bool). b || has id (pinned_ids (pins_without number K.pins))) e ∙ free)))

@@ -1,6 +1,6 @@
 -- What a deletion leaves of a state and its blobs.
 use Rattle.std.proofs.Common.{◌≡◌, ◌≢◌, ◌⊎◌, inl, inr, ⊎_elim, ℕ, ◌<◌, ◌≤◌, ◌+◌, ◌-◌, max, length, Bool, true, false, cond, List, [], ◌∷◌, drop, Option, Some, None, refl, sym, ◌∙◌, ap, subst, arith, length-drop, ◌||◌}
-use Rattle.std.specs.Prelude.{Contains, IsSome, IfSome, slice_get, nat_eq, nat_lt, filter}
+use Rattle.std.specs.Prelude.{Contains, IsSome, IfSome, slice_get, nat_eq, nat_lt}
 use Rattle.std.specs.Option.{option_map_or}
 use Rattle.std.specs.List.{AllByRecursion}
 use Rattle.std.proofs.lemmas.List.{get_or-set_same, get_or-set_other, length-set}
@@ -24,17 +24,8 @@ use Rattle.vault_traits.proofs.Maps.{get_other, get_is, written_or_other}
 use Rattle.keeper_parts.specs.Parts.{Changes, CanClean}
 use Rattle.keeper_parts.proofs.Standing.{keeps_container, needs_floor, needs_beside}
 use Rattle.keeper_parts.proofs.Changing.{recipe_no_floor, floor_no_table, floor_no_payload, next_unneeded}
+use Rattle.deletion_laws.proofs.Members.{filter_within}
 use Rattle.keeper_parts.proofs.Growing.{floor_pos, same_or_not, rows_of}
-
--- of a filtered list
-
-kept_was : {X : Type 0} (p : X → Bool) (xs : List X) (x : X) → Contains (filter p xs) x → Contains xs x
-kept_was p [] x there = there
-kept_was p (y ∷ xs) x there = step (p y) there (kept_was p xs x)
-  where
-    step : (b : Bool) → Contains (cond b (y ∷ filter p xs) (filter p xs)) x → (Contains (filter p xs) x → Contains xs x) → Contains (y ∷ xs) x
-    step true h rest = ⊎_elim (λ here. Contains-append_left (y ∷ []) xs x here) (λ more. Contains-append_right (y ∷ []) xs x (rest more)) (Contains-append_cases (y ∷ []) (filter p xs) x h)
-    step false h rest = Contains-append_right (y ∷ []) xs x (rest h)
 
 -- ids
 
@@ -132,7 +123,7 @@ module _ (S : State) (s n : ℕ) (valid : IsValid S) (below : s < length S.datas
       recipes = λ t v in_range. recipes_at t v (omega (arith, sets_same)) (version_of (delete S s n) t v) refl;
       containers = λ c among. keeps_container m (floor_name s) (Some (floor_bytes s (max (floor_of S s) (n + 1)))) c
           (λ same. floor_no_table s c.table.id (sym same)) (λ same. floor_no_payload s c.table.id (sym same))
-          (stands.containers c (kept_was (λ c. has c.table.id (named (delete S s n))) S.containers c among));
+          (stands.containers c (filter_within (λ c. has c.table.id (named (delete S s n))) S.containers c among));
       newest = λ t v in_range later last.
           get_other m (floor_name s) (Some (floor_bytes s (max (floor_of S s) (n + 1)))) (recipe_name t v) (recipe_no_floor t v s)
           ∙ stands.newest t v (omega (arith, sets_same)) (omega (arith, latest_same t)) last;
@@ -146,7 +137,7 @@ module _ (S : State) (s n : ℕ) (valid : IsValid S) (below : s < length S.datas
   needed_was more q (inl is) = inl (record {
     container = is.container;
     among = ⊎_elim
-        (λ here. Contains-append_left S.containers more is.container (kept_was (λ c. has c.table.id (named (delete S s n))) S.containers is.container here))
+        (λ here. Contains-append_left S.containers more is.container (filter_within (λ c. has c.table.id (named (delete S s n))) S.containers is.container here))
         (λ there. Contains-append_right S.containers more is.container there)
         (Contains-append_cases (delete S s n).containers more is.container is.among);
     is = is.is;
@@ -162,7 +153,7 @@ module _ (S : State) (s n : ℕ) (valid : IsValid S) (below : s < length S.datas
   is_delete = record {
     in_range = below;
     kind = inr (refl, λ needed. next_unneeded S [] s valid (needed_was [] _ needed));
-    containers = λ c among. inl (kept_was (λ c. has c.table.id (named (delete S s n))) S.containers c among);
+    containers = λ c among. inl (filter_within (λ c. has c.table.id (named (delete S s n))) S.containers c among);
     sets = sets_same;
   }
 

@@ -1,6 +1,6 @@
 -- The tables in memory, where containers go.
 use Rattle.std.proofs.Common.{◌≡◌, ℕ, map, Bool, true, false, cond, ◌&&◌, not, List, ◌++◌, Option, Some, None, refl, sym, ◌∙◌, ap, subst}
-use Rattle.std.specs.Prelude.{IfSome, option_map}
+use Rattle.std.specs.Prelude.{Contains, IfSome, option_map}
 use Rattle.std.specs.Option.{option_or}
 use Rattle.vault_types.specs.declared.Name.{Name}
 use Rattle.vault_types.specs.declared.Table.{Table}
@@ -100,3 +100,10 @@ module _ (K : Core) (s n : ℕ) (strays : List Name) (core : IsCore K) (no_job :
       step : (b : Bool) → goes id ≡ b → cond b None (table_at t id) ≡ option_map (λ c. c.table) (container_in (after ++ (pinned ++ put_by K.job)) id)
       step true e = sym (ap (λ (o : Option Container). option_map (λ (c : Container). c.table) o) (none_at id e))
       step false e = are id ∙ sym (ap (λ (o : Option Container). option_map (λ (c : Container). c.table) o) (same_at id e))
+
+-- the table of a named container is in memory
+pub named_table : (K : Core) (t : List (ℕ × Table)) → IsCore K → AreTables t (listed K) → (id : ℕ) → has id (named K.state) ≡ true → (c : Container) × Contains K.state.containers c × (c.table.id ≡ id) × (table_at t id ≡ Some c.table)
+named_table K t core are id h =
+    let c = container_in-some K.state.containers id (ap (has id) core.state.containers ∙ h) in
+    let is = container_in-is K.state.containers id c.0 c.1 in
+    (c.0, is.0, is.1, are id ∙ ap (λ (o : Option Container). option_map (λ (c : Container). c.table) o) (container_in-append K.state.containers (pinned_containers K.pins ++ put_by K.job) id ∙ ap (λ (o : Option Container). option_or o (container_in (pinned_containers K.pins ++ put_by K.job) id)) c.1))

@@ -1,5 +1,6 @@
 -- What a deletion takes from a core, and when the names that go are listed.
-use Rattle.std.specs.Prelude.{◌≡◌, ◌⊎◌, ◌+◌, ◌≤◌, ◌<◌, ℕ, true, false, not, List, map, filter, length, Some, None, Contains, max}
+use Rattle.std.specs.Prelude.{◌≡◌, ◌⊎◌, ◌+◌, ◌≤◌, ◌<◌, ℕ, true, false, not, List, [], ◌∷◌, map, filter, flat_map, length, Some, None, Contains, max}
+use Rattle.std.specs.List.{range_with_len}
 use Rattle.vault_types.specs.declared.Name.{Name}
 use Rattle.vault_types.specs.declared.Table.{Table}
 use Rattle.vault_types.specs.Lists.{has}
@@ -54,6 +55,14 @@ pub record IsGoneContainer (K : Core) (s n : ℕ) (q : Name) : Type 0 where
 -- the name goes with the deletion
 abbrev pub IsGone : Core → ℕ → ℕ → Name → Type 0
 IsGone K s n q = IsGoneRecipe K s n q ⊎ IsGoneContainer K s n q
+
+-- the names of so many versions of a set, from one on
+abbrev pub recipe_names : ℕ → ℕ → ℕ → List Name
+recipe_names s first count = map (λ v. recipe_name s v) (range_with_len first count)
+
+-- the names of the payload and of the table of each of these containers
+abbrev pub container_names : List ℕ → List Name
+container_names ids = flat_map (λ id. payload_name id ∷ table_name id ∷ []) ids
 
 -- the strays are those from before and the names that go
 pub record AreStraysAfter (K : Core) (s n : ℕ) (strays : List Name) : Type 0 where

@@ -1,5 +1,5 @@
 -- What contracts see of a keeper, and when it keeps a core.
-use Rattle.std.specs.Prelude.{◌≡◌, ℕ, ◌+◌, List, [], map, length, Option, Some, None, option_map}
+use Rattle.std.specs.Prelude.{◌≡◌, ℕ, ◌+◌, List, [], map, length, Contains, Option, Some, None, option_map}
 use Rattle.vault_types.specs.declared.Fp.{Fp}
 use Rattle.vault_types.specs.declared.Name.{Name}
 use Rattle.vault_types.specs.declared.Pending.{Pending}
@@ -8,7 +8,8 @@ use Rattle.std.specs.List.{AllByRecursion}
 use Rattle.vault_types.specs.State.{State, next_of, all_rows, IsValid}
 use Rattle.vault_types.specs.Bytes.{HasRow}
 use Rattle.vault_types.specs.Shelf.{Blobs, Stands}
-use Rattle.vault_types.specs.Events.{Core, Job, IsCore}
+use Rattle.vault_types.specs.Tables.{Container}
+use Rattle.vault_types.specs.Events.{Core, Job, Pin, pinned_containers, IsCore}
 use Rattle.vault_traits.specs.Told.{ShelfTold}
 use Rattle.fp_index.specs.Index.{IsIndexOf}
 use Rattle.restore_pins.specs.Pins.{Listed, AreListsOf}
@@ -29,6 +30,10 @@ pub record View : Type 0 where
 abbrev pub job_info : State → Job → JobInfo
 job_info S j = record { set = j.set; first = next_of S; next = next_of S + length j.containers }
 
+-- pins that list one id list one container
+abbrev pub AreAlike : List Pin → Type 0
+AreAlike pins = (c d : Container) → Contains (pinned_containers pins) c → Contains (pinned_containers pins) d → c.table.id ≡ d.table.id → c ≡ d
+
 -- the keeper keeps the core: the shelf holds it, where that is told, and the memory is that of it
 pub record Keeps (v : View) (K : Core) : Type 0 where
   pub core : IsCore K
@@ -36,6 +41,7 @@ pub record Keeps (v : View) (K : Core) : Type 0 where
   pub memo : IsMemoOf v.memo K
   pub index : IsIndexOf v.index (map (λ c. c.table) K.state.containers)
   pub pins : AreListsOf v.pins K.pins
+  pub alike : AreAlike K.pins
   pub job : v.job ≡ option_map (job_info K.state) K.job
   pub pending : v.pending ≡ K.pending
 

@@ -9,6 +9,7 @@ mod putting;
 mod room;
 
 pub use committing::commit_recipe;
+pub use indexing::forget_tables;
 pub use mending::mend_for;
 pub use putting::put_sealed;
 pub use room::make_room;

@@ -1,5 +1,6 @@
 // What each part writes, and where it stops when the shelf fails.
 use crate::one_chunk;
+use deletion_laws::clean_from;
 use keeper_parts::{Halt, clean, commit, mend, put_container, raise_floor};
 use recipe_store::get_floor;
 use std::alloc::Global;
@@ -140,6 +141,20 @@ fn what_is_not_removed_stays_a_stray(rt: HostRuntime) -> Result<(), Fail> {
     assert_eq!(rt; shelf.faults(), 1);
     clean(&mut shelf, &mut strays);
     assert!(rt; strays.is_empty());
+    assert!(rt; shelf.into_inner().names(alloc)?.is_empty());
+    Ok(())
+}
+
+#[test]
+fn names_before_a_place_are_left(rt: HostRuntime) -> Result<(), Fail> {
+    let alloc = rt.alloc();
+    let mut shelf = shelf_with_recipe(alloc, &[2])?;
+    let mut strays = vec![in alloc; TABLE, RECIPE, PAYLOAD]?;
+    clean_from(&mut shelf, &mut strays, 1);
+    assert_eq!(rt; strays.as_slice(), [TABLE, RECIPE].as_slice());
+    assert_eq!(rt; shelf.faults(), 1);
+    clean_from(&mut shelf, &mut strays, 1);
+    assert_eq!(rt; strays.as_slice(), [TABLE].as_slice());
     assert!(rt; shelf.into_inner().names(alloc)?.is_empty());
     Ok(())
 }

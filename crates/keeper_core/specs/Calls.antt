@@ -1,0 +1,42 @@
+-- What the calls of a keeper give, and what a refusal leaves.
+use Rattle.std.specs.Prelude.{◌≡◌, ◌⊎◌, ℕ, ◌+◌, ◌-◌, Bool, true, false, List, [], ◌++◌, map, length, Option, Some, None, IsSome, IfSome, IsSomeAnd, Contains, Result, Ok, Err, max, ◌<◌}
+use Rattle.vault_types.specs.declared.Fault.{Fault}
+use Rattle.vault_types.specs.declared.Fault.TheVariants as fault
+use Rattle.vault_types.specs.declared.Fp.{Fp}
+use Rattle.vault_types.specs.declared.Name.{Name}
+use Rattle.vault_types.specs.declared.Recipe.{Recipe}
+use Rattle.vault_types.specs.declared.Pending.{Pending}
+use Rattle.vault_types.specs.declared.Pending.TheVariants as pending
+use Rattle.keeper_catalog.specs.declared.JobInfo.{JobInfo}
+use Rattle.vault_types.specs.declared.Spot.{Spot}
+use Rattle.vault_types.specs.Names.{fp}
+use Rattle.vault_types.specs.Bytes.{spot_of}
+use Rattle.vault_types.specs.Tables.{Container}
+use Rattle.vault_types.specs.State.{State, KeptVersion, latest_of, next_of, length_of, version_of, recipe_of}
+use Rattle.vault_types.specs.Backup.{inherited_ids}
+use Rattle.vault_types.specs.Events.{Core, Change, Job, Pin, CanCommit, version_in_recipe, commit_change, after_commit, after_refused}
+use Rattle.fp_index.specs.Index.{IsIndexOf}
+use Rattle.vault_traits.specs.Counts.{Rose}
+use Rattle.keeper_catalog.specs.View.{View, Keeps}
+use Rattle.keeper_core.specs.declared.keeper.Begun.{Begun}
+
+-- what a job is told at its beginning
+pub record IsBegun (S : State) (s : ℕ) (b : Begun) : Type 0 where
+  pub set : b.set ≡ s
+  pub version : b.version ≡ latest_of S s + 1
+  pub next : b.next ≡ next_of S
+  pub sparse : b.sparse.items ≡ inherited_ids S s
+  pub index : IsIndexOf b.index (map (λ c. c.table) S.containers)
+
+-- a mending is due for the set where the shelf failed
+abbrev pub due_after : Fault → ℕ → Pending → Pending
+due_after (fault.StoreFault n) s waits = pending.FailedFor s
+due_after other s waits = waits
+
+-- so for the set of the open job
+abbrev pub IsDue : Fault → Option JobInfo → Pending → Pending → Type 0
+IsDue f job before now = IfSome job (λ j. now ≡ due_after f j.set before)
+
+-- after a refusal the state stays, a change may be half done, and the job is as given
+abbrev pub IsHalf : View → Change → Option Job → Core → Type 0
+IsHalf v h job K = (other : Option Change) × Keeps v (after_refused other job v.memo.strays v.pending K) × ((other ≡ None) ⊎ (other ≡ Some h))

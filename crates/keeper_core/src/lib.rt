@@ -1,0 +1,8 @@
+//! The keeper of a store: it owns the shelf, and each of its calls is one event of the store. A call says what becomes of
+//! the versions, the containers, the pins, the strays and the open job, and what a crash at any moment of it leaves.
+#![tactic(auto)]
+
+mod job;
+mod keeper;
+
+pub use keeper::{Begun, Keeper};

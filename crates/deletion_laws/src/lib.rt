@@ -38,6 +38,7 @@ pub fn clean_from<S: Shelf>(shelf: &mut S, strays: &mut Vec<Name>, start: usize)
     ensures place { start ≤ length strays.new.items }
     ensures front { take start strays.new.items ≡ take start strays.old.items }
     ensures behind { (n : Named) → Contains (drop start strays.new.items) n → Contains (drop start strays.old.items) n }
+    ensures fewer { length strays.new.items ≤ length strays.old.items }
 
     // At most one name is left behind the place for each failure.
     ensures few { (S.told shelf.new).faults < 2 ^ 64 - 1 → length strays.new.items + (S.told shelf.old).faults ≤ start + (S.told shelf.new).faults }

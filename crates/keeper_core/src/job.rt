@@ -18,7 +18,7 @@ use std::alloc::Global;
 use std::mem::replace;
 use std::snapshot::Snapshot;
 use vault_traits::{Refused, Shelf};
-use vault_types::{Fault, Pending, Recipe, Set};
+use vault_types::{Fault, Id, Memory, Pending, Recipe, Set};
 
 impl<S: Shelf> Keeper<S> {
     /// Takes back what a refused write may have left, where that is due: after opening that of set 0. `StoreFault`, after
@@ -50,9 +50,10 @@ impl<S: Shelf> Keeper<S> {
         ensures gets { self.new.told.gets ≡ self.old.told.gets }
         ensures causes { HasCauses self.old.told.faults self.new.told.faults IsUndamaged result }
     {
-        let info = &self.catalog.sets[set as usize];
+        let sets = self.catalog.sets.as_slice();
+        let info = &sets[set as usize];
         let version = info.latest + 1;
-        let sparse = info.sparse.as_slice().to_vec(alloc)?;
+        let sparse = copy_of(alloc, info.sparse.as_slice())?;
         mend_for(
             &mut self.shelf,
             &self.catalog.sets,
@@ -93,6 +94,8 @@ impl<S: Shelf> Keeper<S> {
         match &mut self.stand {
             Stand::Here(_) => unreachable!(),
             Stand::Lent(job, _) => {
+                let _table = sealed.table();
+                let _payload = sealed.payload();
                 match put_sealed(alloc, &mut self.shelf, &mut self.catalog, job, sealed) {
                     Ok(()) => Ok(()),
                     Err(fault) => {
@@ -125,23 +128,29 @@ impl<S: Shelf> Keeper<S> {
             Stand::Lent(job, _) => *job,
         };
         let mut index = index;
-        let done = commit_recipe(
+        match commit_recipe(
             alloc,
             &mut self.shelf,
             &mut self.catalog,
             &mut index,
             job,
             recipe,
-        );
-        self.stand = Stand::Here(index);
-        match done {
-            Ok(()) => Ok(()),
-            Err(Halt::Before(Refused::Memory)) => Err(Fault::Memory),
+        ) {
+            Ok(()) => {
+                self.stand = Stand::Here(index);
+                Ok(())
+            }
+            Err(Halt::Before(Refused::Memory)) => {
+                self.stand = Stand::Here(index);
+                Err(Fault::Memory)
+            }
             Err(Halt::Before(Refused::Failed)) => {
+                self.stand = Stand::Here(index);
                 self.pending = Pending::FailedFor(job.set);
                 Err(Fault::StoreFault(self.shelf.faults()))
             }
             Err(Halt::Half) => {
+                self.stand = Stand::Here(index);
                 self.pending = Pending::FailedFor(job.set);
                 Err(Fault::StoreFault(self.shelf.faults()))
             }
@@ -173,6 +182,17 @@ fn due_after(fault: &Fault, set: Set, pending: Pending) -> Pending
         Fault::StoreFault(_) => Pending::FailedFor(set),
         _ => pending,
     }
+}
+
+// A copy of some ids.
+fn copy_of(alloc: Global, ids: &[Id]) -> Result<Vec<Id>, Memory>
+    ensures { IfOk result (λ copy. copy.items ≡ ids.now) }
+{
+    let mut copy = Vec::new(alloc);
+    for id in ids {
+        copy.push(*id)?;
+    }
+    Ok(copy)
 }
 
 // Lends the index to a job.

@@ -21,6 +21,7 @@ invariant-loop-left g l =
       within : (n : Name) → Contains l.strays.items n → Contains l.fn.strays.items n;
       behind : (n : Name) → Contains (drop l.fn.start l.strays.items) n → Contains (drop l.fn.start l.fn.strays.items) n;
       front : take l.fn.start l.strays.items ≡ take l.fn.start l.fn.strays.items;
+      fewer : length l.strays.items ≤ length l.fn.strays.items;
       few : (s.told l.shelf).faults < 2 ^ 64 - 1 → length l.strays.items + (s.told l.fn.shelf).faults ≤ (s.told l.shelf).faults + l.left;
       tells : IsSome (s.told l.fn.shelf).blobs → IsSome (s.told l.shelf).blobs;
       quiet : (s.told l.fn.shelf).blobs ≡ None → (s.told l.shelf).blobs ≡ None;

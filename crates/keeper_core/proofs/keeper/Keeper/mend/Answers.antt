@@ -6,8 +6,8 @@ use Rattle.keeper_jobs.specs.Jobs.{Sees}
 use Rattle.keeper_core.proofs.Keeping.{sees_of, mended}
 use Rattle.keeper_core.proofs.keeper.Keeper.mend.Goals as goal
 
-pub invariant_of-self : goal.invariant_of-self
-invariant_of-self g c =
+pub invariant_of-self-2 : goal.invariant_of-self-2
+invariant_of-self-2 g c =
     let k = c.self.invariant.0 in
     let sees = subst (λ (l : List SetInfo). Sees l c.self.inside.pending k.0) (sym c.deref.ensures.value) (sees_of _ k.0 k.1) in
     ((after_mend k.0.strays k.0, mended _ k.0 k.1 _ _ c.in_ok-mend_for.ensures.over (c.in_ok-mend_for.ensures.mended k.0 sees k.1.held)), c.self.invariant.1)

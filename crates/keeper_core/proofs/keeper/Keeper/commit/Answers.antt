@@ -1,0 +1,84 @@
+use Rattle.std.proofs.Common.{◌≡◌, inl, inr, ℕ, List, Option, Some, None, refl, sym, subst, ap, ◌∙◌}
+use Rattle.std.specs.Prelude.{Err, Result}
+use Rattle.vault_types.specs.declared.Fp.{Fp}
+use Rattle.vault_types.specs.Events.{Core, Job, CanCommit, after_commit, after_refused, commit_change}
+use Rattle.vault_types.specs.declared.Pending.{Pending}
+use Rattle.vault_types.specs.declared.Pending.TheVariants.{FailedFor}
+use Rattle.vault_traits.specs.declared.names.Refused.TheVariants as refused
+use Rattle.keeper_catalog.specs.View.{View, Keeps}
+use Rattle.keeper_jobs.specs.Jobs.{Commits, version_by}
+use Rattle.keeper_core.specs.Stands.{index_of, job_of}
+use Rattle.keeper_core.proofs.Keeping.{commits_of, commit_done, commit_still, commit_halved}
+use Rattle.keeper_core.proofs.keeper.Keeper.commit.Goals as goal
+
+pub invariant_of-self : goal.invariant_of-self
+invariant_of-self g c =
+    let can = c.requires.can in
+    let K : Core = can.0 in
+    let j : Job = can.1 in
+    let k = subst (λ (v : View). Keeps v K) (sym c.self.view_is) can.2 in
+    let fits = can.3 in
+    let job = ap job_of c.in-Lent.is in
+    let cm = commits_of _ K k c.in-Lent.job job j c.args.recipe fits c.args.index (c.requires.lent ∙ ap (λ (v : View). v.index) (sym c.self.view_is)) in
+    ((_, commit_done _ K k c.in-Lent.job job j c.args.recipe fits _ _ _ (c.in-Ok.ensures.memo K j cm) (c.in-Ok.ensures.index K j cm) (c.in-Ok.ensures.held K j cm k.held)), c.commit_recipe.ensures.room)
+
+pub returns-in-Ok-clause-ok : goal.returns-in-Ok-clause-ok
+returns-in-Ok-clause-ok g c K j keeps fits =
+    let k = subst (λ (v : View). Keeps v K) (sym c.self.view_is) keeps in
+    let job = ap job_of c.in-Lent.is in
+    let cm = commits_of _ K k c.in-Lent.job job j c.args.recipe fits c.args.index (c.requires.lent ∙ ap (λ (v : View). v.index) (sym c.self.view_is)) in
+    commit_done _ K k c.in-Lent.job job j c.args.recipe fits _ _ _ (c.in-Ok.ensures.memo K j cm) (c.in-Ok.ensures.index K j cm) (c.in-Ok.ensures.held K j cm k.held)
+
+pub invariant_of-self-in-Err-Before-Memory : goal.invariant_of-self-in-Err-Before-Memory
+invariant_of-self-in-Err-Before-Memory g c =
+    let can = c.requires.can in
+    let K : Core = can.0 in
+    let j : Job = can.1 in
+    let k = subst (λ (v : View). Keeps v K) (sym c.self.view_is) can.2 in
+    let fits = can.3 in
+    let job = ap job_of c.in-Lent.is in
+    let cm = commits_of _ K k c.in-Lent.job job j c.args.recipe fits c.args.index (c.requires.lent ∙ ap (λ (v : View). v.index) (sym c.self.view_is)) in
+    ((_, commit_still _ K k c.in-Lent.job job j c.args.recipe fits _ _ _ c.self.inside.pending (inl refl) (λ w. c.in-Err-Before-Memory.ensures.still K j w cm) (c.in-Err-Before-Memory.ensures.same_index K j cm) (c.in-Err-Before-Memory.ensures.before c.in-Err-Before-Memory.field-0-0 (ap Err c.in-Err-Before-Memory.field-0-is) K j c.self.inside.pending cm k.held)), c.commit_recipe.ensures.room)
+
+pub returns-in-Err-Before-Memory-clause-err : goal.returns-in-Err-Before-Memory-clause-err
+returns-in-Err-Before-Memory-clause-err g c K j keeps fits =
+    let k = subst (λ (v : View). Keeps v K) (sym c.self.view_is) keeps in
+    let job = ap job_of c.in-Lent.is in
+    let cm = commits_of _ K k c.in-Lent.job job j c.args.recipe fits c.args.index (c.requires.lent ∙ ap (λ (v : View). v.index) (sym c.self.view_is)) in
+    (None, commit_still _ K k c.in-Lent.job job j c.args.recipe fits _ _ _ c.self.inside.pending (inl refl) (λ w. c.in-Err-Before-Memory.ensures.still K j w cm) (c.in-Err-Before-Memory.ensures.same_index K j cm) (c.in-Err-Before-Memory.ensures.before c.in-Err-Before-Memory.field-0-0 (ap Err c.in-Err-Before-Memory.field-0-is) K j c.self.inside.pending cm k.held), inl refl)
+
+pub invariant_of-self-in-Err-Before-Failed : goal.invariant_of-self-in-Err-Before-Failed
+invariant_of-self-in-Err-Before-Failed g c =
+    let can = c.requires.can in
+    let K : Core = can.0 in
+    let j : Job = can.1 in
+    let k = subst (λ (v : View). Keeps v K) (sym c.self.view_is) can.2 in
+    let fits = can.3 in
+    let job = ap job_of c.in-Lent.is in
+    let cm = commits_of _ K k c.in-Lent.job job j c.args.recipe fits c.args.index (c.requires.lent ∙ ap (λ (v : View). v.index) (sym c.self.view_is)) in
+    ((_, commit_still _ K k c.in-Lent.job job j c.args.recipe fits _ _ _ (FailedFor c.in-Lent.job.set) (inr refl) (λ w. c.in-Err-Before-Failed.ensures.still K j w cm) (c.in-Err-Before-Failed.ensures.same_index K j cm) (c.in-Err-Before-Failed.ensures.before c.in-Err-Before-Failed.field-0-0 (ap Err c.in-Err-Before-Failed.field-0-is) K j (FailedFor c.in-Lent.job.set) cm k.held)), c.commit_recipe.ensures.room)
+
+pub returns-in-Err-Before-Failed-clause-err : goal.returns-in-Err-Before-Failed-clause-err
+returns-in-Err-Before-Failed-clause-err g c K j keeps fits =
+    let k = subst (λ (v : View). Keeps v K) (sym c.self.view_is) keeps in
+    let job = ap job_of c.in-Lent.is in
+    let cm = commits_of _ K k c.in-Lent.job job j c.args.recipe fits c.args.index (c.requires.lent ∙ ap (λ (v : View). v.index) (sym c.self.view_is)) in
+    (None, commit_still _ K k c.in-Lent.job job j c.args.recipe fits _ _ _ (FailedFor c.in-Lent.job.set) (inr refl) (λ w. c.in-Err-Before-Failed.ensures.still K j w cm) (c.in-Err-Before-Failed.ensures.same_index K j cm) (c.in-Err-Before-Failed.ensures.before c.in-Err-Before-Failed.field-0-0 (ap Err c.in-Err-Before-Failed.field-0-is) K j (FailedFor c.in-Lent.job.set) cm k.held), inl refl)
+
+pub invariant_of-self-in-Err-Half : goal.invariant_of-self-in-Err-Half
+invariant_of-self-in-Err-Half g c =
+    let can = c.requires.can in
+    let K : Core = can.0 in
+    let j : Job = can.1 in
+    let k = subst (λ (v : View). Keeps v K) (sym c.self.view_is) can.2 in
+    let fits = can.3 in
+    let job = ap job_of c.in-Lent.is in
+    let cm = commits_of _ K k c.in-Lent.job job j c.args.recipe fits c.args.index (c.requires.lent ∙ ap (λ (v : View). v.index) (sym c.self.view_is)) in
+    ((_, commit_halved _ K k c.in-Lent.job job j c.args.recipe fits _ _ _ (λ w. c.in-Err-Half.ensures.still K j w cm) (c.in-Err-Half.ensures.same_index K j cm) (c.in-Err-Half.ensures.half (ap Err c.in-Err-Half.field-0-is) K j cm k.held)), c.commit_recipe.ensures.room)
+
+pub returns-in-Err-Half-clause-err : goal.returns-in-Err-Half-clause-err
+returns-in-Err-Half-clause-err g c K j keeps fits =
+    let k = subst (λ (v : View). Keeps v K) (sym c.self.view_is) keeps in
+    let job = ap job_of c.in-Lent.is in
+    let cm = commits_of _ K k c.in-Lent.job job j c.args.recipe fits c.args.index (c.requires.lent ∙ ap (λ (v : View). v.index) (sym c.self.view_is)) in
+    (Some (commit_change (version_by K j c.args.recipe) j c.args.recipe K.state), commit_halved _ K k c.in-Lent.job job j c.args.recipe fits _ _ _ (λ w. c.in-Err-Half.ensures.still K j w cm) (c.in-Err-Half.ensures.same_index K j cm) (c.in-Err-Half.ensures.half (ap Err c.in-Err-Half.field-0-is) K j cm k.held), inr refl)

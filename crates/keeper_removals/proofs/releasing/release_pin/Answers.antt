@@ -1,0 +1,33 @@
+use Rattle.std.proofs.Common.{◌≤◌, ◌∙◌, length, refl, arith}
+use Rattle.vault_types.specs.Events.{after_release}
+use Rattle.keeper_removals.proofs.Gone.{leaves_longer}
+use Rattle.keeper_removals.proofs.Released.{memo_released, held_released, idle_released, within_released}
+use Rattle.keeper_removals.proofs.releasing.release_pin.Goals as goal
+
+pub clean_from-requires : goal.clean_from-requires
+clean_from-requires g c =
+    let r = c.requires.can.1 in
+    let longer : length c.args.catalog.now.strays.items ≤ length c.let_unneeded_go.new.strays.items = leaves_longer _ _ _ _ _ (c.let_unneeded_go.ensures.left r.memo.markers.0 r.memo.markers.1) in
+    omega (arith, c.len-start.ensures, c.args.catalog.now.strays.ok)
+
+pub returns-clause-memo : goal.returns-clause-memo
+returns-clause-memo g c K r =
+    memo_released _ _ _ K c.args.no r _ (c.deref.ensures.value ∙ c.release-ids.ensures.ids) (c.release-ids.ensures.pins K.pins r.pins_are) _ _ c.let_unneeded_go.ensures.left c.clean_from.new.strays.items _ _
+
+pub returns-clause-held : goal.returns-clause-held
+returns-clause-held g c K r held =
+    let ids = c.deref.ensures.value ∙ c.release-ids.ensures.ids in
+    let pins = c.release-ids.ensures.pins K.pins r.pins_are in
+    c.clean_from.ensures.held (after_release c.args.no c.let_unneeded_go.new.strays.items K) refl
+    (λ tells. idle_released _ _ _ K c.args.no r _ ids pins _ _ c.let_unneeded_go.ensures.left c.len-start.result (omega (arith, c.len-start.ensures, c.args.catalog.now.strays.ok)))
+    (held_released _ _ _ K c.args.no r _ ids pins _ _ c.let_unneeded_go.ensures.left _ held)
+
+pub returns-clause-any_moment : goal.returns-clause-any_moment
+returns-clause-any_moment g c K r here =
+    c.clean_from.ensures.any_moment (after_release c.args.no c.let_unneeded_go.new.strays.items K) refl
+    (λ tells. idle_released _ _ _ K c.args.no r _ (c.deref.ensures.value ∙ c.release-ids.ensures.ids) (c.release-ids.ensures.pins K.pins r.pins_are) _ _ c.let_unneeded_go.ensures.left c.len-start.result (omega (arith, c.len-start.ensures, c.args.catalog.now.strays.ok)))
+    here
+
+pub returns-clause-within : goal.returns-clause-within
+returns-clause-within g c K r n there =
+    within_released _ _ _ K c.args.no r _ (c.deref.ensures.value ∙ c.release-ids.ensures.ids) (c.release-ids.ensures.pins K.pins r.pins_are) _ _ c.let_unneeded_go.ensures.left n (c.clean_from.ensures.within n there)

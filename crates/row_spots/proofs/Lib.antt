@@ -1,0 +1,3 @@
+mod Building
+mod Fitting
+pub mod Callers

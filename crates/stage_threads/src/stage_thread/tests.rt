@@ -1,0 +1,287 @@
+//! Three stages in a row, in threads, kept, and both. Each test ends whatever the schedule: an end follows the last item, and
+//! who waits leaves the processor to others.
+ghost use Rattle.std.specs.Prelude.{◌≡◌, ◌≤◌, refl};
+ghost use Rattle.std.proofs.Common.{◌∙◌};
+ghost use Rattle.vault_types.specs.declared.Turn.TheVariants.{Idle};
+
+use super::*;
+use crate::together;
+use stage_queue::{Rx, Tx, line};
+use std::alloc::Global;
+use std::test::Fail;
+use std::thread;
+
+// Passes numbers on, up to the first `None`.
+#[derive(Drop)]
+struct CarryStage {
+    from: Rx<Option<u32>>,
+    to: Tx<Option<u32>>,
+    ready: Option<Option<u32>>,
+    over: bool,
+}
+
+impl Stage for CarryStage {
+    ghost same = { λ a b. (a.from.line ≡ b.from.line) × (a.to.line ≡ b.to.line) };
+
+    ghost turned = { λ a turn b. turn ≡ Idle → (a.from ≡ b.from) × (a.to ≡ b.to) };
+
+    fn turn<R: Wait>(&mut self, rt: &R) -> Turn {
+        if let Some(item) = self.ready.take() {
+            return match self.to.offer(rt, item) {
+                Ok(()) => Turn::Moved,
+                Err(back) => {
+                    self.ready = Some(back);
+                    Turn::Idle
+                }
+            };
+        }
+        if self.over {
+            return Turn::Done;
+        }
+        match self.from.take(rt) {
+            None => Turn::Idle,
+            Some(item) => {
+                self.over = item.is_none();
+                self.ready = Some(item);
+                Turn::Moved
+            }
+        }
+    }
+
+    ghost same_refl = { λ s. (refl, refl) };
+
+    ghost same_trans = { λ a b c p q. (p.0 ∙ q.0, p.1 ∙ q.1) };
+}
+
+// A stack that no host gives to a thread, or the usual one.
+fn stack(is_refused: bool) -> Stack {
+    if is_refused {
+        Stack::new().stack_size(usize::MAX)
+    } else {
+        Stack::new()
+    }
+}
+
+#[derive(Drop)]
+struct Row {
+    near: Tx<Option<u32>>,
+    first: StageThread<CarryStage>,
+    second: StageThread<CarryStage>,
+    third: StageThread<CarryStage>,
+    far: Rx<Option<u32>>,
+}
+
+impl Row {
+    // Three stages in a row, of which those are refused their thread.
+    fn start<'s, E: 's, R: Wait + Clock + Copy + Drop + Send + 's>(
+        rt: R,
+        alloc: Global,
+        scope: &'s Scope<'s, E>,
+        capacity: u32,
+        refused: (bool, bool, bool),
+    ) -> Result<Row, Memory>
+        requires { 1 ≤ capacity }
+    {
+        let (_, near, from) = line(alloc, capacity)?;
+        let (_, to, second_from) = line(alloc, capacity)?;
+        let (_, second_to, third_from) = line(alloc, capacity)?;
+        let (_, third_to, far) = line(alloc, capacity)?;
+        let places = (Place::new(alloc)?, Place::new(alloc)?, Place::new(alloc)?);
+        let first = CarryStage {
+            from,
+            to,
+            ready: None,
+            over: false,
+        };
+        let second = CarryStage {
+            from: second_from,
+            to: second_to,
+            ready: None,
+            over: false,
+        };
+        let third = CarryStage {
+            from: third_from,
+            to: third_to,
+            ready: None,
+            over: false,
+        };
+        Ok(Row {
+            near,
+            first: StageThread::start_on(rt, places.0, scope, first, stack(refused.0)),
+            second: StageThread::start_on(rt, places.1, scope, second, stack(refused.1)),
+            third: StageThread::start_on(rt, places.2, scope, third, stack(refused.2)),
+            far,
+        })
+    }
+
+    fn turn_rest<R: Wait>(&mut self, rt: &R) -> Turn {
+        let first = self.first.turn(rt);
+        let second = self.second.turn(rt);
+        let third = self.third.turn(rt);
+        together(first, together(second, third))
+    }
+
+    // Sends the numbers 0 to `count - 1` and then `None`, and tells how many numbers came out, and whether all in order.
+    fn carry<R: Wait + Clock>(&mut self, rt: &R, count: u32) -> (u32, bool) {
+        let mut sent = 0u32;
+        let mut came = 0u32;
+        let mut in_order = true;
+        let mut back_off = BackOff::new();
+        for _ in rt.forever() {
+            let mut told = self.turn_rest(rt);
+            if sent <= count {
+                let item = if sent < count { Some(sent) } else { None };
+                if self.near.offer(rt, item).is_ok() {
+                    sent = sent.saturating_add(1);
+                    told = Turn::Moved;
+                }
+            }
+            match self.far.take(rt) {
+                Some(Some(number)) => {
+                    in_order = in_order && number == came;
+                    came = came.saturating_add(1);
+                    told = Turn::Moved;
+                }
+                Some(None) => return (came, in_order),
+                None => {}
+            }
+            if told == Turn::Moved {
+                back_off.reset();
+            } else {
+                back_off.wait(rt);
+            }
+        }
+        unreachable!()
+    }
+
+    // Ends the stages, and tells how many were kept, and whether each is done.
+    fn end<R: Threads + Wait + Clock>(mut self, rt: &R) -> (u32, bool) {
+        for _ in rt.forever() {
+            if self.turn_rest(rt) == Turn::Done {
+                break;
+            }
+        }
+        let kept = [&self.first, &self.second, &self.third]
+            .iter()
+            .filter(|stage| stage.is_kept())
+            .count();
+        let Row {
+            near: _,
+            first,
+            second,
+            third,
+            far: _,
+        } = self;
+        let first = first.end(rt);
+        let second = second.end(rt);
+        let third = third.end(rt);
+        let are_done = [&first, &second, &third]
+            .iter()
+            .all(|stage| stage.over && stage.ready.is_none());
+        (kept as u32, are_done)
+    }
+}
+
+// How many numbers came out, whether all in order, how many stages were kept, and whether each was done.
+fn carried<R: Threads + Wait + Clock + Copy + Drop + Send>(
+    rt: R,
+    alloc: Global,
+    capacity: u32,
+    count: u32,
+    refused: (bool, bool, bool),
+) -> Result<((u32, bool), (u32, bool)), Memory>
+    requires { 1 ≤ capacity }
+{
+    thread::scope(
+        thread::scope_env(),
+        &rt,
+        |scope| -> Result<((u32, bool), (u32, bool)), Memory>
+            requires { 1 ≤ capacity }
+        {
+            let mut row = Row::start(rt, alloc, scope, capacity, refused)?;
+            let came = row.carry(&rt, count);
+            Ok((came, row.end(&rt)))
+        },
+    )
+}
+
+#[test]
+fn three_stages_in_threads(rt: HostRuntime) -> Result<(), Fail> {
+    for capacity in [1, 64] {
+        assert_eq!(rt;
+            carried(rt, rt.alloc(), capacity, 20_000, (false, false, false))?,
+            ((20_000, true), (0, true)),
+            "through {capacity} places"
+        );
+    }
+    Ok(())
+}
+
+#[test]
+fn three_stages_without_threads(rt: HostRuntime) -> Result<(), Fail> {
+    for capacity in [1, 64] {
+        assert_eq!(rt;
+            carried(rt, rt.alloc(), capacity, 20_000, (true, true, true))?,
+            ((20_000, true), (3, true)),
+            "through {capacity} places"
+        );
+    }
+    Ok(())
+}
+
+#[test]
+fn three_stages_with_some_threads(rt: HostRuntime) -> Result<(), Fail> {
+    for (first, second, third, kept) in [
+        (true, false, false, 1),
+        (false, true, false, 1),
+        (false, false, true, 1),
+        (true, true, false, 2),
+        (true, false, true, 2),
+        (false, true, true, 2),
+    ] {
+        assert_eq!(rt;
+            carried(rt, rt.alloc(), 2, 5_000, (first, second, third))?,
+            ((5_000, true), (kept, true)),
+            "refused: {first} {second} {third}"
+        );
+    }
+    Ok(())
+}
+
+// A stage that is kept, and what it has to carry is in its line: what it left in the next line, by its own end.
+fn ended_alone<R: Threads + Wait + Clock + Copy + Drop + Send>(
+    rt: R,
+    alloc: Global,
+) -> Result<(Vec<Option<u32>>, bool), Memory> {
+    thread::scope(thread::scope_env(), &rt, |scope| {
+        let (_, mut near, from) = line(alloc, 4)?;
+        let (_, to, mut far) = line(alloc, 4)?;
+        let place = Place::new(alloc)?;
+        let stage = CarryStage {
+            from,
+            to,
+            ready: None,
+            over: false,
+        };
+        let kept = StageThread::start_on(rt, place, scope, stage, stack(true));
+        for item in [Some(7), Some(8), None] {
+            let _ = near.offer(&rt, item);
+        }
+        let stage = kept.end(&rt);
+        let mut came = Vec::new(alloc);
+        for _ in 0..4 {
+            if let Some(item) = far.take(&rt) {
+                came.push(item)?;
+            }
+        }
+        Ok((came, stage.over))
+    })
+}
+
+#[test]
+fn a_kept_stage_is_done_at_its_end(rt: HostRuntime) -> Result<(), Fail> {
+    let (came, is_over) = ended_alone(rt, rt.alloc())?;
+    assert_eq!(rt; came.as_slice(), [Some(7), Some(8), None].as_slice());
+    assert!(rt; is_over);
+    Ok(())
+}

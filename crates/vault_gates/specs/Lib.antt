@@ -1,0 +1,4 @@
+pub mod Pieces
+pub mod Streams
+pub mod Shelf
+pub mod Places

@@ -8,7 +8,7 @@ use Rattle.std.specs.List.{AllByRecursion}
 use Rattle.vault_types.specs.State.{State, next_of, all_rows, IsValid}
 use Rattle.vault_types.specs.Bytes.{HasRow}
 use Rattle.vault_types.specs.Shelf.{Blobs, Stands}
-use Rattle.vault_types.specs.Tables.{Container}
+use Rattle.vault_types.specs.Tables.{Container, IsTable}
 use Rattle.vault_types.specs.Events.{Core, Job, Pin, pinned_containers, IsCore}
 use Rattle.vault_traits.specs.Told.{ShelfTold}
 use Rattle.fp_index.specs.Index.{IsIndexOf}
@@ -42,6 +42,7 @@ pub record Keeps (v : View) (K : Core) : Type 0 where
   pub index : IsIndexOf v.index (map (λ c. c.table) K.state.containers)
   pub pins : AreListsOf v.pins K.pins
   pub alike : AreAlike K.pins
+  pub pinned : AllByRecursion (λ c. IsTable c.table) (pinned_containers K.pins)
   pub job : v.job ≡ option_map (job_info K.state) K.job
   pub pending : v.pending ≡ K.pending
 

@@ -92,7 +92,7 @@ begun_core K s below core = record {
 module _ (v : View) (K : Core) (keeps : Keeps v K) (told : ShelfTold) (waits : Pending) where
   -- the same core over another shelf's tellings
   pub same_keeps : waits ≡ v.pending → HeldIfTold told.blobs K → Keeps (record { told = told; memo = v.memo; index = v.index; pins = v.pins; job = v.job; pending = waits }) K
-  same_keeps over held = record { core = keeps.core; held = held; memo = keeps.memo; index = keeps.index; pins = keeps.pins; alike = keeps.alike; job = keeps.job; pending = over ∙ keeps.pending }
+  same_keeps over held = record { core = keeps.core; held = held; memo = keeps.memo; index = keeps.index; pins = keeps.pins; alike = keeps.alike; pinned = keeps.pinned; job = keeps.job; pending = over ∙ keeps.pending }
 
   pub mended : waits ≡ Not → HeldIfTold told.blobs (without_other K) → Keeps (record { told = told; memo = v.memo; index = v.index; pins = v.pins; job = v.job; pending = waits }) (after_mend K.strays K)
   mended over held = record {
@@ -101,7 +101,7 @@ module _ (v : View) (K : Core) (keeps : Keeps v K) (told : ShelfTold) (waits : P
     memo = record { sets = keeps.memo.sets; tables = keeps.memo.tables; markers = keeps.memo.markers; strays = keeps.memo.strays };
     index = keeps.index;
     pins = keeps.pins;
-    alike = keeps.alike;
+    alike = keeps.alike; pinned = keeps.pinned;
     job = keeps.job;
     pending = over;
   }
@@ -126,7 +126,7 @@ module _ (v : View) (K : Core) (keeps : Keeps v K) (told : ShelfTold) (waits : P
     };
     index = subst (λ (l : List (Fp × List ℕ)). IsIndexOf l (map (λ (c : Container). c.table) K.state.containers)) (sym index_eq) keeps.index;
     pins = keeps.pins;
-    alike = keeps.alike;
+    alike = keeps.alike; pinned = keeps.pinned;
     job = job_eq ∙ (λ i. Some (record { set = s; first = at i; next = (at ∙ sym (add-zero (next_of K.state))) i }));
     pending = over;
   }
@@ -213,7 +213,7 @@ module _ (v : View) (K : Core) (keeps : Keeps v K) (j : JobInfo) (open_job : v.j
     };
     index = subst (λ (l : List (Fp × List ℕ)). IsIndexOf l (map (λ (c : Container). c.table) K.state.containers)) (sym same_index) keeps.index;
     pins = keeps.pins;
-    alike = keeps.alike;
+    alike = keeps.alike; pinned = keeps.pinned;
     job = same_job ∙ keeps.job;
     pending = refl;
   }
@@ -246,7 +246,7 @@ module _ (v : View) (K : Core) (keeps : Keeps v K) (j : JobInfo) (open_job : v.j
       };
       index = subst (λ (l : List (Fp × List ℕ)). IsIndexOf l (map (λ (d : Container). d.table) K.state.containers)) (sym same_index) keeps.index;
       pins = keeps.pins;
-      alike = keeps.alike;
+      alike = keeps.alike; pinned = keeps.pinned;
       job = ap (λ (i : JobInfo). Some i) (is ∙ info_at job_is.0 job_is.2) ∙ ap (λ (o : Option Job). option_map (job_info K.state) (option_map (put_in c) o)) (sym job_is.1);
       pending = keeps.pending;
     }
@@ -266,7 +266,7 @@ module _ (v : View) (K : Core) (keeps : Keeps v K) (j : JobInfo) (open_job : v.j
     };
     index = subst (λ (l : List (Fp × List ℕ)). IsIndexOf l (map (λ (d : Container). d.table) K.state.containers)) (sym same_index) keeps.index;
     pins = keeps.pins;
-    alike = keeps.alike;
+    alike = keeps.alike; pinned = keeps.pinned;
     job = refl;
     pending = keeps.pending;
   }
@@ -292,7 +292,7 @@ module _ (v : View) (K : Core) (keeps : Keeps v K) (j : JobInfo) (open_job : v.j
       memo = memo;
       index = index_is;
       pins = keeps.pins;
-      alike = keeps.alike;
+      alike = keeps.alike; pinned = keeps.pinned;
       job = refl;
       pending = keeps.pending;
     }
@@ -309,7 +309,7 @@ module _ (v : View) (K : Core) (keeps : Keeps v K) (j : JobInfo) (open_job : v.j
       memo = memo waits;
       index = index_is;
       pins = keeps.pins;
-      alike = keeps.alike;
+      alike = keeps.alike; pinned = keeps.pinned;
       job = refl;
       pending = refl;
     }
@@ -325,7 +325,7 @@ module _ (v : View) (K : Core) (keeps : Keeps v K) (j : JobInfo) (open_job : v.j
           memo = let m = memo (FailedFor j.set) in record { sets = m.sets; tables = m.tables; markers = m.markers; strays = m.strays };
           index = index_is;
           pins = keeps.pins;
-          alike = keeps.alike;
+          alike = keeps.alike; pinned = keeps.pinned;
           job = refl;
           pending = refl;
         }

@@ -40,7 +40,7 @@ on_err (Err f) e is h = h
 pub sees_of : (v : View) (K : Core) → Keeps v K → Sees v.memo.sets v.pending K
 sees_of v K keeps = record { core = keeps.core; sets_are = keeps.memo.sets; pending_is = keeps.pending }
 
-no_job : (S : State) (o : Option Job) → option_map (job_info S) o ≡ None → o ≡ None
+pub no_job : (S : State) (o : Option Job) → option_map (job_info S) o ≡ None → o ≡ None
 no_job S None e = refl
 no_job S (Some j) e = absurd (none_some (job_info S j) (sym e))
 
@@ -61,7 +61,7 @@ sets_count v K keeps = ap length keeps.memo.sets ∙ length_map set_info K.state
 
 -- a mending
 
-mended_core : (K : Core) → IsCore K → IsCore (after_mend K.strays K)
+pub mended_core : (K : Core) → IsCore K → IsCore (after_mend K.strays K)
 mended_core K core = record {
   state = core.state;
   job = core.job;

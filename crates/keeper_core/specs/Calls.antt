@@ -40,3 +40,9 @@ IsDue f job before now = IfSome job (λ j. now ≡ due_after f j.set before)
 -- after a refusal the state stays, a change may be half done, and the job is as given
 abbrev pub IsHalf : View → Change → Option Job → Core → Type 0
 IsHalf v h job K = (other : Option Change) × Keeps v (after_refused other job v.memo.strays v.pending K) × ((other ≡ None) ⊎ (other ≡ Some h))
+
+-- why a deletion was refused: its version is the latest of its set or above it, or the shelf failed in it
+abbrev pub IsDeletionFault : ℕ → ℕ → Type 0 → Fault → Type 0
+IsDeletionFault before now IsLast (fault.LastVersion s n latest) = IsLast
+IsDeletionFault before now IsLast (fault.StoreFault n) = (n ≡ now) × Rose before now
+IsDeletionFault before now IsLast other = ⊥

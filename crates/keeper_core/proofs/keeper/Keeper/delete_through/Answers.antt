@@ -1,0 +1,180 @@
+use Rattle.std.proofs.Common.{◌≡◌, ◌≢◌, ◌⊎◌, inl, inr, ◌<◌, ◌≤◌, ℕ, List, Option, Some, None, refl, sym, subst, ap, ◌∙◌, arith, length}
+use Rattle.vault_types.specs.declared.Pending.{Pending}
+use Rattle.vault_types.specs.declared.Pending.TheVariants.{Not, FailedFor}
+use Rattle.vault_types.specs.State.{latest_of}
+use Rattle.vault_types.specs.Delete.{delete, removed}
+use Rattle.vault_types.specs.declared.Answer.TheVariants.{Removed}
+use Rattle.vault_types.specs.Shelf.{Blobs}
+use Rattle.vault_types.specs.Events.{Core, IsNear, after_mend, after_delete, delete_change}
+use Rattle.vault_traits.specs.Crash.{LeavesNowIfTold, LeavesOnlyIfTold}
+use Rattle.vault_traits.proofs.Moments.{stays, then, ends, more}
+use Rattle.deletion_laws.specs.Deleting.{IsDeleting}
+use Rattle.keeper_catalog.specs.declared.SetInfo.{SetInfo}
+use Rattle.keeper_catalog.specs.View.{View, Keeps}
+use Rattle.keeper_jobs.specs.Jobs.{Sees}
+use Rattle.keeper_jobs.proofs.Seeing.{alone, not_failed}
+use Rattle.keeper_core.specs.Stands.{index_of, job_of}
+use Rattle.keeper_core.proofs.Keeping.{sees_of, mended, mended_core, sets_count}
+use Rattle.keeper_core.proofs.Removing.{mended_now, removing_of, deleted, floor_after, halved}
+use Rattle.keeper_core.proofs.keeper.Keeper.delete_through.Goals as goal
+
+pub returns-then-through-latest-clause-any_moment : goal.returns-then-through-latest-clause-any_moment
+returns-then-through-latest-clause-any_moment g c K keeps here = more (IsNear K.state K.other) _ (λ b near. inl near) _ _ (stays (IsNear K.state K.other) _ _ refl here)
+
+pub returns-in_err-mend_for-clause-any_moment : goal.returns-in_err-mend_for-clause-any_moment
+returns-in_err-mend_for-clause-any_moment g c K keeps here =
+    let k = subst (λ (v : View). Keeps v K) (sym c.self.view_is) keeps in
+    let sees = subst (λ (l : List SetInfo). Sees l c.self.inside.pending K) (sym c.deref.ensures.value) (sees_of _ K k) in
+    let now = subst (λ (v : View). LeavesNowIfTold v.told.history (IsNear K.state K.other)) (sym c.self.view_is) here in
+    let P : Blobs → Type 0 = λ b. IsNear K.state K.other b ⊎ IsDeleting K.state c.args.set c.args.through b in
+    subst (λ (v : View). LeavesOnlyIfTold v.told.history (g.S.Shelf.told c.mend_for.new.shelf).history P) c.self.view_is
+    (more (IsNear K.state K.other) P (λ b near. inl near) _ _ (c.mend_for.ensures.any_moment K sees now))
+
+pub delete_versions-requires-clause-can : goal.delete_versions-requires-clause-can
+delete_versions-requires-clause-can g c =
+    let K : Core = c.self.invariant.0.0 in
+    let k = c.self.invariant.0.1 in
+    let sees = subst (λ (l : List SetInfo). Sees l c.self.inside.pending K) (sym c.deref.ensures.value) (sees_of _ K k) in
+    let k2 = mended _ K k (g.S.Shelf.told c.mend_for.new.shelf) c.mend_for.new.pending c.in_ok-mend_for.ensures.over (c.in_ok-mend_for.ensures.mended K sees k.held) in
+    let none = ap (λ (v : View). v.job) c.self.view_is ∙ c.requires in
+    let below : c.args.set < length K.state.datasets = omega (arith, c.ranges.set.fits, k.core.state.sets) in
+    let late = c.latest-latest.ensures K (subst (λ (v : View). Keeps v K) c.self.view_is k) in
+    let low : c.args.through < latest_of K.state c.args.set = omega (arith, late, c.if-through-latest.false) in
+    let r = removing_of _ (after_mend K.strays K) k2 none c.args.set c.args.through below low c.in-Here.index (ap index_of (sym c.in-Here.is)) refl in
+    (after_mend K.strays K, r)
+
+pub invariant_of-self-in-Ok : goal.invariant_of-self-in-Ok
+invariant_of-self-in-Ok g c =
+    let K : Core = c.self.invariant.0.0 in
+    let k = c.self.invariant.0.1 in
+    let sees = subst (λ (l : List SetInfo). Sees l c.self.inside.pending K) (sym c.deref.ensures.value) (sees_of _ K k) in
+    let k2 = mended _ K k (g.S.Shelf.told c.mend_for.new.shelf) c.mend_for.new.pending c.in_ok-mend_for.ensures.over (c.in_ok-mend_for.ensures.mended K sees k.held) in
+    let none = ap (λ (v : View). v.job) c.self.view_is ∙ c.requires in
+    let below : c.args.set < length K.state.datasets = omega (arith, c.ranges.set.fits, k.core.state.sets) in
+    let late = c.latest-latest.ensures K (subst (λ (v : View). Keeps v K) c.self.view_is k) in
+    let low : c.args.through < latest_of K.state c.args.set = omega (arith, late, c.if-through-latest.false) in
+    let r = removing_of _ (after_mend K.strays K) k2 none c.args.set c.args.through below low c.in-Here.index (ap index_of (sym c.in-Here.is)) refl in
+    ((_, deleted _ (after_mend K.strays K) k2 none c.args.set c.args.through below low (g.S.Shelf.told c.delete_versions.new.shelf) _ _ _ _ refl c.in_ok-mend_for.ensures.over (c.in-Ok.ensures.memo (after_mend K.strays K) r) (c.in-Ok.ensures.index (after_mend K.strays K) r) (c.in-Ok.ensures.held (after_mend K.strays K) r k2.held)), c.delete_versions.ensures.room)
+
+pub invariant_of-self-in-Err : goal.invariant_of-self-in-Err
+invariant_of-self-in-Err g c =
+    let K : Core = c.self.invariant.0.0 in
+    let k = c.self.invariant.0.1 in
+    let sees = subst (λ (l : List SetInfo). Sees l c.self.inside.pending K) (sym c.deref.ensures.value) (sees_of _ K k) in
+    let k2 = mended _ K k (g.S.Shelf.told c.mend_for.new.shelf) c.mend_for.new.pending c.in_ok-mend_for.ensures.over (c.in_ok-mend_for.ensures.mended K sees k.held) in
+    let none = ap (λ (v : View). v.job) c.self.view_is ∙ c.requires in
+    let below : c.args.set < length K.state.datasets = omega (arith, c.ranges.set.fits, k.core.state.sets) in
+    let late = c.latest-latest.ensures K (subst (λ (v : View). Keeps v K) c.self.view_is k) in
+    let low : c.args.through < latest_of K.state c.args.set = omega (arith, late, c.if-through-latest.false) in
+    let r = removing_of _ (after_mend K.strays K) k2 none c.args.set c.args.through below low c.in-Here.index (ap index_of (sym c.in-Here.is)) refl in
+    ((_, halved _ (after_mend K.strays K) k2 none c.args.set c.args.through below low (g.S.Shelf.told c.delete_versions.new.shelf) _ _ _ refl c.in-Err.ensures.as_before.0 (c.in-Err.ensures.as_before.1 ∙ ap index_of (sym c.in-Here.is)) (c.in-Err.ensures.half (after_mend K.strays K) r k2.held)), c.delete_versions.ensures.room)
+
+pub bounds-sets-set : goal.bounds-sets-set
+bounds-sets-set g c =
+    let K : Core = c.self.invariant.0.0 in
+    let k = c.self.invariant.0.1 in
+    let sees = subst (λ (l : List SetInfo). Sees l c.self.inside.pending K) (sym c.deref.ensures.value) (sees_of _ K k) in
+    let k2 = mended _ K k (g.S.Shelf.told c.mend_for.new.shelf) c.mend_for.new.pending c.in_ok-mend_for.ensures.over (c.in_ok-mend_for.ensures.mended K sees k.held) in
+    let none = ap (λ (v : View). v.job) c.self.view_is ∙ c.requires in
+    let below : c.args.set < length K.state.datasets = omega (arith, c.ranges.set.fits, k.core.state.sets) in
+    let late = c.latest-latest.ensures K (subst (λ (v : View). Keeps v K) c.self.view_is k) in
+    let low : c.args.through < latest_of K.state c.args.set = omega (arith, late, c.if-through-latest.false) in
+    let r = removing_of _ (after_mend K.strays K) k2 none c.args.set c.args.through below low c.in-Here.index (ap index_of (sym c.in-Here.is)) refl in
+    let count = sets_count _ _ (deleted _ (after_mend K.strays K) k2 none c.args.set c.args.through below low (g.S.Shelf.told c.delete_versions.new.shelf) _ _ _ _ refl c.in_ok-mend_for.ensures.over (c.in-Ok.ensures.memo (after_mend K.strays K) r) (c.in-Ok.ensures.index (after_mend K.strays K) r) (c.in-Ok.ensures.held (after_mend K.strays K) r k2.held)) in
+    let len = ap length c.as_slice-sets.ensures.value in
+    omega (arith, count, len, c.ranges.set.fits)
+
+pub bounds-sets-set-in-Ok : goal.bounds-sets-set-in-Ok
+bounds-sets-set-in-Ok g c =
+    let K : Core = c.self.invariant.0.0 in
+    let k = c.self.invariant.0.1 in
+    let sees = subst (λ (l : List SetInfo). Sees l c.self.inside.pending K) (sym c.deref.ensures.value) (sees_of _ K k) in
+    let k2 = mended _ K k (g.S.Shelf.told c.mend_for.new.shelf) c.mend_for.new.pending c.in_ok-mend_for.ensures.over (c.in_ok-mend_for.ensures.mended K sees k.held) in
+    let none = ap (λ (v : View). v.job) c.self.view_is ∙ c.requires in
+    let below : c.args.set < length K.state.datasets = omega (arith, c.ranges.set.fits, k.core.state.sets) in
+    let late = c.latest-latest.ensures K (subst (λ (v : View). Keeps v K) c.self.view_is k) in
+    let low : c.args.through < latest_of K.state c.args.set = omega (arith, late, c.if-through-latest.false) in
+    let r = removing_of _ (after_mend K.strays K) k2 none c.args.set c.args.through below low c.in-Here.index (ap index_of (sym c.in-Here.is)) refl in
+    let count = sets_count _ _ (deleted _ (after_mend K.strays K) k2 none c.args.set c.args.through below low (g.S.Shelf.told c.delete_versions.new.shelf) _ _ _ _ refl c.in_ok-mend_for.ensures.over (c.in-Ok.ensures.memo (after_mend K.strays K) r) (c.in-Ok.ensures.index (after_mend K.strays K) r) (c.in-Ok.ensures.held (after_mend K.strays K) r k2.held)) in
+    let len = ap length c.as_slice-sets.ensures.value in
+    omega (arith, count, len, c.ranges.set.fits)
+
+pub returns-in-Ok-clause-ok : goal.returns-in-Ok-clause-ok
+returns-in-Ok-clause-ok g c K keeps =
+    let k = subst (λ (v : View). Keeps v K) (sym c.self.view_is) keeps in
+    let sees = subst (λ (l : List SetInfo). Sees l c.self.inside.pending K) (sym c.deref.ensures.value) (sees_of _ K k) in
+    let k2 = mended _ K k (g.S.Shelf.told c.mend_for.new.shelf) c.mend_for.new.pending c.in_ok-mend_for.ensures.over (c.in_ok-mend_for.ensures.mended K sees k.held) in
+    let none = ap (λ (v : View). v.job) c.self.view_is ∙ c.requires in
+    let below : c.args.set < length K.state.datasets = omega (arith, c.ranges.set.fits, k.core.state.sets) in
+    let late = c.latest-latest.ensures K (subst (λ (v : View). Keeps v K) c.self.view_is k) in
+    let low : c.args.through < latest_of K.state c.args.set = omega (arith, late, c.if-through-latest.false) in
+    let r = removing_of _ (after_mend K.strays K) k2 none c.args.set c.args.through below low c.in-Here.index (ap index_of (sym c.in-Here.is)) refl in
+    let count = sets_count _ _ (deleted _ (after_mend K.strays K) k2 none c.args.set c.args.through below low (g.S.Shelf.told c.delete_versions.new.shelf) _ _ _ _ refl c.in_ok-mend_for.ensures.over (c.in-Ok.ensures.memo (after_mend K.strays K) r) (c.in-Ok.ensures.index (after_mend K.strays K) r) (c.in-Ok.ensures.held (after_mend K.strays K) r k2.held)) in
+    let len = ap length c.as_slice-sets.ensures.value in
+    let inside : c.args.set < length c.as_slice-sets.result.now = omega (arith, count, len, c.ranges.set.fits) in
+    let at = sym (ap (λ (j : SetInfo). j.floor) c.index-sets-set.is) ∙ floor_after _ (after_mend K.strays K) k2 none c.args.set c.args.through below low _ _ _ _ (c.in-Ok.ensures.memo (after_mend K.strays K) r) c.as_slice-sets.ensures.value inside c.index-sets-set.is in
+    (low, (λ i. Removed c.args.set c.args.through (at i) (c.in-Ok.ensures.removed (after_mend K.strays K) r i)), deleted _ (after_mend K.strays K) k2 none c.args.set c.args.through below low (g.S.Shelf.told c.delete_versions.new.shelf) _ _ _ _ refl c.in_ok-mend_for.ensures.over (c.in-Ok.ensures.memo (after_mend K.strays K) r) (c.in-Ok.ensures.index (after_mend K.strays K) r) (c.in-Ok.ensures.held (after_mend K.strays K) r k2.held))
+
+pub returns-in-Err-clause-err : goal.returns-in-Err-clause-err
+returns-in-Err-clause-err g c K keeps =
+    let k = subst (λ (v : View). Keeps v K) (sym c.self.view_is) keeps in
+    let sees = subst (λ (l : List SetInfo). Sees l c.self.inside.pending K) (sym c.deref.ensures.value) (sees_of _ K k) in
+    let k2 = mended _ K k (g.S.Shelf.told c.mend_for.new.shelf) c.mend_for.new.pending c.in_ok-mend_for.ensures.over (c.in_ok-mend_for.ensures.mended K sees k.held) in
+    let none = ap (λ (v : View). v.job) c.self.view_is ∙ c.requires in
+    let below : c.args.set < length K.state.datasets = omega (arith, c.ranges.set.fits, k.core.state.sets) in
+    let late = c.latest-latest.ensures K (subst (λ (v : View). Keeps v K) c.self.view_is k) in
+    let low : c.args.through < latest_of K.state c.args.set = omega (arith, late, c.if-through-latest.false) in
+    let r = removing_of _ (after_mend K.strays K) k2 none c.args.set c.args.through below low c.in-Here.index (ap index_of (sym c.in-Here.is)) refl in
+    inr (Some (delete_change c.args.set c.args.through K.state), halved _ (after_mend K.strays K) k2 none c.args.set c.args.through below low (g.S.Shelf.told c.delete_versions.new.shelf) _ _ _ refl c.in-Err.ensures.as_before.0 (c.in-Err.ensures.as_before.1 ∙ ap index_of (sym c.in-Here.is)) (c.in-Err.ensures.half (after_mend K.strays K) r k2.held), inr refl)
+
+pub returns-in-Ok-clause-any_moment : goal.returns-in-Ok-clause-any_moment
+returns-in-Ok-clause-any_moment g c K keeps here =
+    let k = subst (λ (v : View). Keeps v K) (sym c.self.view_is) keeps in
+    let sees = subst (λ (l : List SetInfo). Sees l c.self.inside.pending K) (sym c.deref.ensures.value) (sees_of _ K k) in
+    let k2 = mended _ K k (g.S.Shelf.told c.mend_for.new.shelf) c.mend_for.new.pending c.in_ok-mend_for.ensures.over (c.in_ok-mend_for.ensures.mended K sees k.held) in
+    let none = ap (λ (v : View). v.job) c.self.view_is ∙ c.requires in
+    let below : c.args.set < length K.state.datasets = omega (arith, c.ranges.set.fits, k.core.state.sets) in
+    let late = c.latest-latest.ensures K (subst (λ (v : View). Keeps v K) c.self.view_is k) in
+    let low : c.args.through < latest_of K.state c.args.set = omega (arith, late, c.if-through-latest.false) in
+    let r = removing_of _ (after_mend K.strays K) k2 none c.args.set c.args.through below low c.in-Here.index (ap index_of (sym c.in-Here.is)) refl in
+    let now = subst (λ (v : View). LeavesNowIfTold v.told.history (IsNear K.state K.other)) (sym c.self.view_is) here in
+    let P : Blobs → Type 0 = λ b. IsNear K.state K.other b ⊎ IsDeleting K.state c.args.set c.args.through b in
+    let first = c.mend_for.ensures.any_moment K sees now in
+    let mid = mended_now K c.self.inside.pending _ _ (λ e. alone K k.core.other Not (sym k.pending ∙ e) not_failed) first (λ waits. c.in_ok-mend_for.ensures.acknowledged waits K sees k.held) in
+    subst (λ (v : View). LeavesOnlyIfTold v.told.history (g.S.Shelf.told c.delete_versions.new.shelf).history P) c.self.view_is
+    (then P _ _ _ (more (IsNear K.state K.other) P (λ b near. inl near) _ _ first)
+    (more (IsDeleting K.state c.args.set c.args.through) P (λ b in_it. inr in_it) _ _ (c.delete_versions.ensures.any_moment (after_mend K.strays K) r k2.held mid)))
+
+pub returns-in-Err-clause-any_moment : goal.returns-in-Err-clause-any_moment
+returns-in-Err-clause-any_moment g c K keeps here =
+    let k = subst (λ (v : View). Keeps v K) (sym c.self.view_is) keeps in
+    let sees = subst (λ (l : List SetInfo). Sees l c.self.inside.pending K) (sym c.deref.ensures.value) (sees_of _ K k) in
+    let k2 = mended _ K k (g.S.Shelf.told c.mend_for.new.shelf) c.mend_for.new.pending c.in_ok-mend_for.ensures.over (c.in_ok-mend_for.ensures.mended K sees k.held) in
+    let none = ap (λ (v : View). v.job) c.self.view_is ∙ c.requires in
+    let below : c.args.set < length K.state.datasets = omega (arith, c.ranges.set.fits, k.core.state.sets) in
+    let late = c.latest-latest.ensures K (subst (λ (v : View). Keeps v K) c.self.view_is k) in
+    let low : c.args.through < latest_of K.state c.args.set = omega (arith, late, c.if-through-latest.false) in
+    let r = removing_of _ (after_mend K.strays K) k2 none c.args.set c.args.through below low c.in-Here.index (ap index_of (sym c.in-Here.is)) refl in
+    let now = subst (λ (v : View). LeavesNowIfTold v.told.history (IsNear K.state K.other)) (sym c.self.view_is) here in
+    let P : Blobs → Type 0 = λ b. IsNear K.state K.other b ⊎ IsDeleting K.state c.args.set c.args.through b in
+    let first = c.mend_for.ensures.any_moment K sees now in
+    let mid = mended_now K c.self.inside.pending _ _ (λ e. alone K k.core.other Not (sym k.pending ∙ e) not_failed) first (λ waits. c.in_ok-mend_for.ensures.acknowledged waits K sees k.held) in
+    subst (λ (v : View). LeavesOnlyIfTold v.told.history (g.S.Shelf.told c.delete_versions.new.shelf).history P) c.self.view_is
+    (then P _ _ _ (more (IsNear K.state K.other) P (λ b near. inl near) _ _ first)
+    (more (IsDeleting K.state c.args.set c.args.through) P (λ b in_it. inr in_it) _ _ (c.delete_versions.ensures.any_moment (after_mend K.strays K) r k2.held mid)))
+
+pub returns-in-Ok-clause-acknowledged : goal.returns-in-Ok-clause-acknowledged
+returns-in-Ok-clause-acknowledged g c K keeps here =
+    let k = subst (λ (v : View). Keeps v K) (sym c.self.view_is) keeps in
+    let sees = subst (λ (l : List SetInfo). Sees l c.self.inside.pending K) (sym c.deref.ensures.value) (sees_of _ K k) in
+    let k2 = mended _ K k (g.S.Shelf.told c.mend_for.new.shelf) c.mend_for.new.pending c.in_ok-mend_for.ensures.over (c.in_ok-mend_for.ensures.mended K sees k.held) in
+    let none = ap (λ (v : View). v.job) c.self.view_is ∙ c.requires in
+    let below : c.args.set < length K.state.datasets = omega (arith, c.ranges.set.fits, k.core.state.sets) in
+    let late = c.latest-latest.ensures K (subst (λ (v : View). Keeps v K) c.self.view_is k) in
+    let low : c.args.through < latest_of K.state c.args.set = omega (arith, late, c.if-through-latest.false) in
+    let r = removing_of _ (after_mend K.strays K) k2 none c.args.set c.args.through below low c.in-Here.index (ap index_of (sym c.in-Here.is)) refl in
+    let now = subst (λ (v : View). LeavesNowIfTold v.told.history (IsNear K.state K.other)) (sym c.self.view_is) here in
+    let P : Blobs → Type 0 = λ b. IsNear K.state K.other b ⊎ IsDeleting K.state c.args.set c.args.through b in
+    let first = c.mend_for.ensures.any_moment K sees now in
+    let mid = mended_now K c.self.inside.pending _ _ (λ e. alone K k.core.other Not (sym k.pending ∙ e) not_failed) first (λ waits. c.in_ok-mend_for.ensures.acknowledged waits K sees k.held) in
+    c.in-Ok.ensures.acknowledged (after_mend K.strays K) r k2.held mid

@@ -1,0 +1,109 @@
+//! Deletions and releases.
+ghost use Rattle.std.specs.Prelude.{◌≡◌, ◌≤◌, ◌<◌, ◌+◌, ◌-◌, ◌^◌, ◌⊎◌, None, IfOk, IfErr, OnOk, OnErr, Err, IsTrue, length};
+ghost use Rattle.vault_types.specs.declared.Fault.TheVariants as fault;
+ghost use Rattle.vault_types.specs.Lists.{has};
+ghost use Rattle.vault_types.specs.State.{latest_of};
+ghost use Rattle.vault_types.specs.Delete.{delete, removed};
+ghost use Rattle.vault_types.specs.Events.{Core, IsNear, after_delete, after_release, delete_change};
+ghost use Rattle.vault_traits.specs.Crash.{LeavesNowIfTold, LeavesOnlyIfTold};
+ghost use Rattle.restore_pins.specs.Pins.{numbers};
+ghost use Rattle.deletion_laws.specs.Deleting.{IsDeleting};
+ghost use Rattle.keeper_parts.specs.Parts.{HeldIfTold};
+ghost use Rattle.keeper_catalog.specs.View.{Keeps};
+ghost use Rattle.keeper_core.specs.Calls.{IsHalf, IsDeletionFault};
+
+use crate::keeper::{Keeper, Stand};
+use keeper_jobs::mend_for;
+use keeper_removals::{delete_versions, release_pin};
+use restore_pins::PinNo;
+use vault_traits::Shelf;
+use vault_types::{Answer, Fault, Pending, Set, Version};
+
+impl<S: Shelf> Keeper<S> {
+    /// Deletes the versions of a set through one that is not its latest: the floor rises and is settled, and then the
+    /// recipes below it go, the containers that lost their last name and are in no pin, and all known strays. A removal
+    /// that fails leaves a stray, and is no refusal. Nothing is got, and no memory is taken. `LastVersion`, exactly where
+    /// the version is not below the latest; then `StoreFault` of a mending that was due, or of the floor, after which its
+    /// set may have the new floor or not until a mending.
+    pub fn delete_through(&mut self, set: Set, through: Version) -> Result<Answer, Fault>
+        requires { self.old.job ≡ None }
+        ensures ok { IfOk result (λ answer. (K : Core) → Keeps self.old K → (through < latest_of K.state set) × (answer ≡ removed K.state set through) × Keeps self.new (after_delete set through self.new.memo.strays K)) }
+        ensures err { OnErr result ((K : Core) → Keeps self.old K → Keeps self.new K ⊎ IsHalf self.new (delete_change set through K.state) None K) }
+        ensures last { (K : Core) → Keeps self.old K → latest_of K.state set ≤ through → result ≡ Err (fault.LastVersion set through (latest_of K.state set)) }
+        ensures cause { IfErr result (λ f. (K : Core) → Keeps self.old K → IsDeletionFault self.old.told.faults self.new.told.faults (latest_of K.state set ≤ through) f) }
+        ensures later { self.old.told.faults ≤ self.new.told.faults }
+
+        // A crash at any moment leaves what it could leave before, or the state before or behind the deletion; at `Ok`
+        // only the one behind it.
+        ensures any_moment { (K : Core) → Keeps self.old K → LeavesNowIfTold self.old.told.history (IsNear K.state K.other)
+            → LeavesOnlyIfTold self.old.told.history self.new.told.history (λ c. IsNear K.state K.other c ⊎ IsDeleting K.state set through c) }
+        ensures acknowledged { OnOk result ((K : Core) → Keeps self.old K → LeavesNowIfTold self.old.told.history (IsNear K.state K.other) → LeavesNowIfTold self.new.told.history (IsNear (delete K.state set through) None)) }
+
+        // At most one name is left for each removal that failed.
+        ensures few { OnOk result (self.new.told.faults < 2 ^ 64 - 1 → length self.new.memo.strays + self.old.told.faults ≤ self.new.told.faults) }
+        ensures gets { self.new.told.gets ≡ self.old.told.gets }
+    {
+        let latest = self.latest(set);
+        if through >= latest {
+            return Err(Fault::LastVersion {
+                set,
+                through,
+                latest,
+            });
+        }
+        mend_for(&mut self.shelf, &self.catalog.sets, &mut self.pending, set)?;
+        match &mut self.stand {
+            Stand::Lent(_, _) => unreachable!(),
+            Stand::Here(index) => {
+                match delete_versions(
+                    &mut self.shelf,
+                    &mut self.catalog,
+                    index,
+                    &self.pins,
+                    set,
+                    through,
+                ) {
+                    Ok(reclaimed) => {
+                        let sets = self.catalog.sets.as_slice();
+                        Ok(Answer::Removed {
+                            set,
+                            through,
+                            floor: sets[set as usize].floor,
+                            reclaimed,
+                        })
+                    }
+                    Err(fault) => {
+                        self.pending = Pending::FailedFor(set);
+                        Err(fault)
+                    }
+                }
+            }
+        }
+    }
+
+    /// Ends a pin of this keeper, and removes its containers that are neither named nor in another pin. A removal that
+    /// fails leaves a stray. Takes no memory.
+    pub fn release(&mut self, no: PinNo)
+        requires { IsTrue (has no (numbers self.old.pins)) }
+        ensures releases { (K : Core) → Keeps self.old K → Keeps self.new (after_release no self.new.memo.strays K) }
+        ensures any_moment { (K : Core) → Keeps self.old K → LeavesNowIfTold self.old.told.history (IsNear K.state K.other)
+            → LeavesOnlyIfTold self.old.told.history self.new.told.history (IsNear K.state K.other) }
+
+        // At most one name is left for each removal that failed.
+        ensures few { self.new.told.faults < 2 ^ 64 - 1 → length self.new.memo.strays + self.old.told.faults ≤ length self.old.memo.strays + self.new.told.faults }
+        ensures gets { self.new.told.gets ≡ self.old.told.gets }
+        ensures later { self.old.told.faults ≤ self.new.told.faults }
+        ensures same { (self.new.index ≡ self.old.index) × (self.new.job ≡ self.old.job) × (self.new.pending ≡ self.old.pending) }
+    {
+        release_pin(&mut self.shelf, &mut self.catalog, &mut self.pins, no);
+    }
+
+    /// Hands out the shelf.
+    pub fn close(self) -> S
+        ensures told { S.told result ≡ self.told }
+        ensures held { (K : Core) → Keeps self K → HeldIfTold (S.told result).blobs K }
+    {
+        let Keeper { shelf, .. } = self;
+        shelf
+    }
+}

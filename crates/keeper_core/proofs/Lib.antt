@@ -1,2 +1,4 @@
 pub mod Keeping
 pub mod Removing
+pub mod Openings
+pub mod Listing

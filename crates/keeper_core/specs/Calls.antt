@@ -46,3 +46,11 @@ abbrev pub IsDeletionFault : ℕ → ℕ → Type 0 → Fault → Type 0
 IsDeletionFault before now IsLast (fault.LastVersion s n latest) = IsLast
 IsDeletionFault before now IsLast (fault.StoreFault n) = (n ≡ now) × Rose before now
 IsDeletionFault before now IsLast other = ⊥
+
+-- a pin has the number, and lists the container of this id
+pub record Lists (pins : List Pin) (number id : ℕ) (c : Container) : Type 0 where
+  pub pin : Pin
+  pub among : Contains pins pin
+  pub has_number : pin.number ≡ number
+  pub listed : Contains pin.containers c
+  pub has_id : c.table.id ≡ id

@@ -5,5 +5,7 @@
 mod deletion;
 mod job;
 mod keeper;
+mod pinning;
+mod starting;
 
 pub use keeper::{Begun, Keeper};

@@ -1,0 +1,56 @@
+//! Opening a store, and the recipes that it keeps.
+ghost use Rattle.std.specs.Prelude.{◌≡◌, [], IfOk, IfErr, IfSome, IsSome, Some, None};
+ghost use Rattle.vault_types.specs.State.{State, KeptVersion, version_of};
+ghost use Rattle.vault_types.specs.Events.{Core};
+ghost use Rattle.blob_parts.specs.Causes.{HasCauses, IsCause};
+ghost use Rattle.recipe_store.specs.Damages.{IsRecipeDamage};
+ghost use Rattle.keeper_open.specs.Damage.{IsDamageOf};
+ghost use Rattle.keeper_catalog.specs.View.{Keeps, Opens, opened_core};
+ghost use Rattle.commit_laws.specs.Laws.{SaysVersion};
+
+use crate::keeper::{Keeper, Stand};
+use keeper_open::{Opened, open};
+use recipe_store::get_recipe;
+use restore_pins::Pins;
+use std::alloc::Global;
+use vault_traits::Shelf;
+use vault_types::{Fault, Pending, Recipe, Set, Version};
+
+impl<S: Shelf> Keeper<S> {
+    /// Opens the store on a shelf: its floors, its recipes, its tables, and the rows of all recipes are read and checked,
+    /// in this order; payloads are not read. Writes nothing. `StoreFault`, `Damaged` with the first damage in that order,
+    /// `Memory`; the shelf then comes back.
+    pub fn start(alloc: Global, mut shelf: S) -> Result<Keeper<S>, (Fault, S)>
+        ensures opened { IfOk result (λ k. (T : State) × IfSome (S.told shelf).blobs (λ m. Opens m T) × Keeps k (opened_core T k.memo.strays)) }
+        ensures each { IfOk result (λ k. IfSome (S.told shelf).blobs (λ m. (T : State) → Opens m T → Keeps k (opened_core T k.memo.strays))) }
+        ensures shelf { IfOk result (λ k. (k.told.blobs ≡ (S.told shelf).blobs) × (k.told.history ≡ (S.told shelf).history) × (k.told.gets ≡ (S.told shelf).gets)) }
+        ensures fresh { IfOk result (λ k. (k.job ≡ None) × (k.pins ≡ []) × (k.pending ≡ Pending.Opened)) }
+        ensures back { IfErr result (λ e. ((S.told e.1).blobs ≡ (S.told shelf).blobs) × ((S.told e.1).history ≡ (S.told shelf).history) × ((S.told e.1).gets ≡ (S.told shelf).gets)) }
+        ensures cause { IfErr result (λ e. IsCause (S.told shelf).faults (S.told e.1).faults (IsDamageOf (S.told shelf).blobs) e.0) }
+    {
+        match open(alloc, &mut shelf) {
+            Ok(opened) => {
+                let Opened { catalog, index } = opened;
+                Ok(Keeper {
+                    shelf,
+                    catalog,
+                    pins: Pins::new(alloc),
+                    stand: Stand::Here(index),
+                    pending: Pending::Opened,
+                })
+            }
+            Err(fault) => Err((fault, shelf)),
+        }
+    }
+
+    /// The recipe of a version, as the shelf has it. `StoreFault`, `Damaged`, `Memory`.
+    pub fn recipe(&mut self, alloc: Global, set: Set, version: Version) -> Result<Recipe, Fault>
+        ensures says { IfOk result (λ r. IsSome self.old.told.blobs → (K : Core) (k : KeptVersion) → Keeps self.old K → version_of K.state set version ≡ Some k → SaysVersion r k) }
+        ensures keeps { (K : Core) → Keeps self.old K → Keeps self.new K }
+        ensures same { (self.new.memo ≡ self.old.memo) × (self.new.index ≡ self.old.index) × (self.new.pins ≡ self.old.pins) × (self.new.job ≡ self.old.job) × (self.new.pending ≡ self.old.pending) }
+        ensures shelf { (self.new.told.blobs ≡ self.old.told.blobs) × (self.new.told.history ≡ self.old.told.history) × (self.new.told.gets ≡ self.old.told.gets) }
+        ensures causes { HasCauses self.old.told.faults self.new.told.faults (IsRecipeDamage self.old.told.blobs set version) result }
+    {
+        get_recipe(alloc, &mut self.shelf, set, version)
+    }
+}

@@ -1,5 +1,5 @@
 -- What a keeper has in memory, and when that is what it has of a core.
-use Rattle.std.specs.Prelude.{◌≡◌, ℕ, ◌+◌, ◌-◌, ◌*◌, ◌≤◌, List, [], ◌∷◌, ◌++◌, map, length, sum_by, Option, Some, None, option_map, Contains, vec_capacity}
+use Rattle.std.specs.Prelude.{◌≡◌, ℕ, ◌+◌, ◌-◌, ◌*◌, ◌≤◌, List, [], ◌++◌, map, length, sum_by, Option, Some, None, option_map, Contains, vec_capacity}
 use Rattle.std.specs.Option.{option_map_or}
 use Rattle.std.specs.Ordering.{nat_cmp}
 use Rattle.std.specs.BTreeMap.{is_at}
@@ -9,7 +9,6 @@ use Rattle.vault_types.specs.declared.Table.{Table}
 use Rattle.vault_types.specs.Marks.{Mark}
 use Rattle.vault_types.specs.Tables.{Container}
 use Rattle.vault_types.specs.State.{State, Dataset, KeptVersion, latest_in, next_in, latest_version, version_of, container_in}
-use Rattle.vault_types.specs.Shelf.{table_name, payload_name}
 use Rattle.vault_types.specs.Events.{Core, put_by, pinned_containers}
 use Rattle.set_markers.specs.SetMarkers.{Marked, AreMarkersOfSets}
 use Rattle.keeper_catalog.specs.declared.SetInfo.{SetInfo}

@@ -1,20 +1,17 @@
 -- What a keeper keeps over the events of a job.
-use Rattle.std.proofs.Common.{◌≡◌, ◌≢◌, ◌⊎◌, inl, inr, ⊎_elim, ℕ, zero, suc, ◌<◌, ◌≤◌, ◌+◌, ◌&&◌, length, map, max, Bool, true, false, cond, List, [], ◌∷◌, ◌++◌, Option, Some, None, refl, sym, ◌∙◌, ap, subst, arith, add-zero, length-append}
-use Rattle.std.specs.Prelude.{Result, Ok, Err, OnErr, Contains, IsSome, IfSome, IsSomeAnd, fold, option_map, nat_eq, nat_le, nat_lt, if◌then◌else◌}
-use Rattle.std.specs.List.{AllByRecursion}
+use Rattle.std.proofs.Common.{◌≡◌, ◌⊎◌, inl, inr, ⊎_elim, ℕ, suc, ◌<◌, ◌+◌, ◌&&◌, length, map, max, List, [], ◌∷◌, ◌++◌, Option, Some, None, refl, sym, ◌∙◌, ap, subst, arith, add-zero, length-append}
+use Rattle.std.specs.Prelude.{Result, Ok, Err, OnErr, Contains, IsSome, IfSome, fold, option_map, nat_eq, nat_le, nat_lt, if◌then◌else◌}
 use Rattle.vault_types.specs.declared.Fault.{Fault}
 use Rattle.vault_types.specs.declared.Fault.TheVariants as fault
 use Rattle.vault_types.specs.declared.Fp.{Fp}
-use Rattle.vault_types.specs.declared.Name.{Name}
-use Rattle.vault_types.specs.declared.Table.{Table}
 use Rattle.vault_types.specs.declared.Pending.{Pending}
-use Rattle.vault_types.specs.declared.Pending.TheVariants.{Not, Opened, FailedFor}
+use Rattle.vault_types.specs.declared.Pending.TheVariants.{Not, FailedFor}
 use Rattle.vault_types.specs.declared.Recipe.{Recipe}
 use Rattle.vault_types.specs.Tables.{Container, IsTable}
 use Rattle.vault_types.specs.Bytes.{HasPayload}
 use Rattle.vault_types.specs.State.{State, Dataset, next_in, next_of, container_in}
 use Rattle.vault_types.specs.Shelf.{Blobs, HasContainer}
-use Rattle.vault_types.specs.Events.{Core, Change, Job, Pin, put_by, put_in, pinned_containers, IsCore, IsChange, CanCommit, Held, committed, commit_change, after_begin, after_mend, after_put, after_abort, after_commit, after_refused}
+use Rattle.vault_types.specs.Events.{Core, Change, Job, put_by, put_in, pinned_containers, IsCore, IsChange, CanCommit, Held, committed, commit_change, after_begin, after_mend, after_put, after_abort, after_commit, after_refused}
 use Rattle.vault_traits.specs.Told.{ShelfTold}
 use Rattle.fp_index.specs.Index.{IsIndexOf}
 use Rattle.set_markers.specs.SetMarkers.{Marked}
@@ -25,7 +22,6 @@ use Rattle.keeper_catalog.specs.declared.JobInfo.{JobInfo}
 use Rattle.keeper_catalog.specs.declared.SetInfo.{SetInfo}
 use Rattle.keeper_catalog.specs.Catalog.{Memo, set_info, table_at, AreMarkersOf, IsMemoOf}
 use Rattle.keeper_catalog.specs.View.{View, Keeps, job_info}
-use Rattle.commit_laws.specs.Laws.{is_put}
 use Rattle.commit_laws.proofs.Putting.{next_free, put_core, put_tables, abort_tables, abort_core, abort_held}
 use Rattle.commit_laws.proofs.Committing.{commit_core}
 use Rattle.commit_laws.proofs.Holding.{refused_core, half_core}

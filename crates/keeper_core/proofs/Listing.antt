@@ -1,20 +1,18 @@
 -- The table in memory of a container that a pin lists.
-use Rattle.std.proofs.Common.{◌≡◌, ◌≢◌, ◌⊎◌, inl, inr, ⊎_elim, true, false, ℕ, ◌<◌, length, map, Bool, cond, List, [], ◌∷◌, ◌++◌, Option, Some, None, refl, sym, ◌∙◌, ap, subst, arith}
+use Rattle.std.proofs.Common.{◌≡◌, ◌⊎◌, inl, inr, ⊎_elim, true, false, ℕ, Bool, cond, List, [], ◌∷◌, ◌++◌, Option, Some, None, refl, sym, ◌∙◌, ap, subst, arith}
 use Rattle.std.specs.Prelude.{Contains, IfSome, IsSome, option_map, ◌==◌}
 use Rattle.std.specs.Option.{option_or}
-use Rattle.std.specs.List.{AllByRecursion}
 use Rattle.std.proofs.lemmas.Bool.Decides.{nat_tests}
 use Rattle.std.proofs.lemmas.List.Elements.{Contains-append_left, Contains-append_right}
-use Rattle.vault_types.specs.declared.Table.{Table}
 use Rattle.vault_types.specs.Tables.{Container, IsTable}
-use Rattle.vault_types.specs.State.{State, container_in}
-use Rattle.vault_types.specs.Shelf.{Blobs, payload_name, HasContainer}
-use Rattle.vault_types.specs.Events.{Core, Pin, put_by, pinned_containers, Held}
+use Rattle.vault_types.specs.State.{container_in}
+use Rattle.vault_types.specs.Shelf.{Blobs, payload_name}
+use Rattle.vault_types.specs.Events.{Core, Pin, put_by, pinned_containers}
 use Rattle.blob_parts.specs.Causes.{Has}
 use Rattle.keeper_parts.specs.Parts.{HeldIfTold}
-use Rattle.keeper_catalog.specs.Catalog.{table_at, listed}
+use Rattle.keeper_catalog.specs.Catalog.{table_at}
 use Rattle.keeper_catalog.specs.View.{View, Keeps}
-use Rattle.commit_laws.proofs.Listing.{all_at, found_append, found_is, none_some, some_same}
+use Rattle.commit_laws.proofs.Listing.{all_at, found_append, found_is}
 use Rattle.deletion_laws.proofs.Members.{first_or_rest}
 use Rattle.keeper_core.specs.Calls.{Lists}
 

@@ -1,17 +1,15 @@
 -- What a keeper keeps of a shelf that was opened, and over a call that only reads.
-use Rattle.std.proofs.Common.{◌≡◌, true, false, ℕ, ◌<◌, ◌+◌, length, map, List, [], Option, Some, None, refl, sym, ◌∙◌, ap, subst, arith}
+use Rattle.std.proofs.Common.{◌≡◌, true, false, ℕ, ◌<◌, map, List, [], Option, Some, None, refl, sym, subst, arith}
 use Rattle.std.specs.List.{IsDistinct}
-use Rattle.std.specs.Prelude.{nat_eq, Contains, IfSome, IsSome, Result, Ok, Err, IfOk}
+use Rattle.std.specs.Prelude.{nat_eq, IfSome, IsSome, Result, Ok, Err, IfOk}
 use Rattle.vault_types.specs.declared.Fp.{Fp}
 use Rattle.vault_types.specs.declared.Name.{Name}
-use Rattle.vault_types.specs.declared.Pending.{Pending}
-use Rattle.vault_types.specs.declared.Pending.TheVariants.{Opened, FailedFor}
+use Rattle.vault_types.specs.declared.Pending.TheVariants.{Opened}
 use Rattle.vault_types.specs.declared.Recipe.{Recipe}
-use Rattle.vault_types.specs.Tables.{Container}
 use Rattle.vault_types.specs.State.{State, KeptVersion, version_of, IsValid}
 use Rattle.vault_types.specs.Blobs.{SpellsRecipe}
 use Rattle.vault_types.specs.Shelf.{Blobs, recipe_name}
-use Rattle.vault_types.specs.Events.{Core, IsCore, Held}
+use Rattle.vault_types.specs.Events.{Core, IsCore}
 use Rattle.vault_traits.specs.Told.{ShelfTold}
 use Rattle.blob_parts.specs.Causes.{Has}
 use Rattle.keeper_parts.specs.Parts.{HeldIfTold}

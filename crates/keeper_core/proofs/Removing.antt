@@ -1,5 +1,5 @@
 -- What a keeper keeps over a deletion and a release.
-use Rattle.std.proofs.Common.{◌≡◌, ◌≢◌, ◌⊎◌, inl, inr, ℕ, zero, suc, ◌<◌, ◌≤◌, ◌+◌, max, length, map, Bool, true, false, cond, not, List, [], ◌∷◌, ◌++◌, Option, Some, None, refl, sym, ◌∙◌, ap, subst, arith, get_or}
+use Rattle.std.proofs.Common.{◌≡◌, ◌≢◌, ℕ, ◌<◌, length, map, Bool, true, false, cond, not, List, [], ◌∷◌, ◌++◌, Option, Some, None, refl, sym, ◌∙◌, ap, subst}
 use Rattle.std.specs.Prelude.{filter, slice_index_or, option_map, ◌==◌}
 use Rattle.std.specs.List.{AllByRecursion}
 use Rattle.std.proofs.lemmas.List.{get_or_default}
@@ -9,10 +9,9 @@ use Rattle.vault_types.specs.declared.Name.{Name}
 use Rattle.vault_types.specs.declared.Pending.{Pending}
 use Rattle.vault_types.specs.declared.Pending.TheVariants.{Not, Opened, FailedFor}
 use Rattle.vault_types.specs.Tables.{Container, IsTable}
-use Rattle.vault_types.specs.State.{State, empty_dataset, container_in, latest_of, floor_of}
+use Rattle.vault_types.specs.State.{empty_dataset, container_in, latest_of, floor_of}
 use Rattle.vault_types.specs.Delete.{delete}
-use Rattle.vault_types.specs.Shelf.{Blobs}
-use Rattle.vault_types.specs.Events.{Core, Change, Job, Pin, put_by, pinned_containers, pins_without, IsNear, after_mend, after_delete, after_release, after_refused, delete_change}
+use Rattle.vault_types.specs.Events.{Core, Change, Job, Pin, put_by, pinned_containers, pins_without, IsNear, after_delete, after_release, after_refused, delete_change}
 use Rattle.vault_traits.specs.Crash.{History, LeavesNowIfTold, LeavesOnlyIfTold}
 use Rattle.vault_traits.specs.Told.{ShelfTold}
 use Rattle.vault_traits.proofs.Moments.{ends}

@@ -1,20 +1,14 @@
 -- What the calls of a keeper give, and what a refusal leaves.
-use Rattle.std.specs.Prelude.{◌≡◌, ◌⊎◌, ℕ, ◌+◌, ◌-◌, Bool, true, false, List, [], ◌++◌, map, length, Option, Some, None, IsSome, IfSome, IsSomeAnd, Contains, Result, Ok, Err, max, ◌<◌}
+use Rattle.std.specs.Prelude.{◌≡◌, ◌⊎◌, ℕ, ◌+◌, List, map, Option, Some, None, IfSome, Contains}
 use Rattle.vault_types.specs.declared.Fault.{Fault}
 use Rattle.vault_types.specs.declared.Fault.TheVariants as fault
-use Rattle.vault_types.specs.declared.Fp.{Fp}
-use Rattle.vault_types.specs.declared.Name.{Name}
-use Rattle.vault_types.specs.declared.Recipe.{Recipe}
 use Rattle.vault_types.specs.declared.Pending.{Pending}
 use Rattle.vault_types.specs.declared.Pending.TheVariants as pending
 use Rattle.keeper_catalog.specs.declared.JobInfo.{JobInfo}
-use Rattle.vault_types.specs.declared.Spot.{Spot}
-use Rattle.vault_types.specs.Names.{fp}
-use Rattle.vault_types.specs.Bytes.{spot_of}
 use Rattle.vault_types.specs.Tables.{Container}
-use Rattle.vault_types.specs.State.{State, KeptVersion, latest_of, next_of, length_of, version_of, recipe_of}
+use Rattle.vault_types.specs.State.{State, latest_of, next_of}
 use Rattle.vault_types.specs.Backup.{inherited_ids}
-use Rattle.vault_types.specs.Events.{Core, Change, Job, Pin, CanCommit, version_in_recipe, commit_change, after_commit, after_refused}
+use Rattle.vault_types.specs.Events.{Core, Change, Job, Pin, after_refused}
 use Rattle.fp_index.specs.Index.{IsIndexOf}
 use Rattle.vault_traits.specs.Counts.{Rose}
 use Rattle.keeper_catalog.specs.View.{View, Keeps}

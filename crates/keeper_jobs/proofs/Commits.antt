@@ -1,21 +1,19 @@
 -- What the memory says of a core whose job commits.
-use Rattle.std.proofs.Common.{◌≡◌, ◌≢◌, ◌⊎◌, inl, inr, ⊎_elim, ℕ, zero, suc, ◌<◌, ◌≤◌, ◌+◌, ◌-◌, length, map, Bool, true, false, cond, not, ◌&&◌, ◌||◌, List, [], ◌∷◌, ◌++◌, Option, Some, None, refl, sym, ◌∙◌, ap, subst, arith, get_or}
-use Rattle.std.specs.Prelude.{Contains, IsSome, IfSome, IsSomeAnd, slice_index_or, slice_set, if◌then◌else◌, nat_eq, nat_le, nat_lt, option_map}
+use Rattle.std.proofs.Common.{◌≡◌, ◌≢◌, ℕ, suc, ◌<◌, ◌≤◌, ◌+◌, ◌-◌, length, map, ◌&&◌, List, [], ◌∷◌, ◌++◌, Option, Some, None, refl, sym, ◌∙◌, ap, subst, arith}
+use Rattle.std.specs.Prelude.{Contains, slice_index_or, slice_set, if◌then◌else◌, nat_le, nat_lt, option_map}
 use Rattle.std.specs.Option.{option_map_or, option_or}
 use Rattle.std.specs.List.{AllByRecursion, range_with_len}
-use Rattle.std.proofs.lemmas.Bool.Decides.{nat_tests}
 use Rattle.std.proofs.lemmas.List.{map-append}
 use Rattle.std.proofs.Math.ListN.{get_or-map}
 use Rattle.vault_types.specs.Lists.{set_of, IsAscending}
 use Rattle.vault_types.specs.declared.Fp.{Fp}
-use Rattle.vault_types.specs.declared.Name.{Name}
 use Rattle.vault_types.specs.declared.Recipe.{Recipe}
 use Rattle.vault_types.specs.declared.Table.{Table}
 use Rattle.vault_types.specs.Tables.{Container, id_of}
-use Rattle.vault_types.specs.State.{State, empty_dataset, floor_of, latest_of, next_of, container_in}
+use Rattle.vault_types.specs.State.{empty_dataset, floor_of, latest_of, next_of, container_in}
 use Rattle.vault_types.specs.Marks.{Mark, marks_of}
 use Rattle.vault_types.specs.declared.Pending.{Pending}
-use Rattle.vault_types.specs.Events.{Core, Change, Job, put_by, pinned_containers, IsCore, committed, after_commit, after_refused}
+use Rattle.vault_types.specs.Events.{Core, Change, Job, put_by, pinned_containers, committed, after_commit, after_refused}
 use Rattle.set_markers.specs.SetMarkers.{AreMarkersOfSets}
 use Rattle.commit_laws.specs.Laws.{is_put}
 use Rattle.commit_laws.proofs.Looking.{commit_tables}
@@ -26,10 +24,9 @@ use Rattle.fp_index.specs.Index.{IsIndexOf}
 use Rattle.keeper_catalog.specs.declared.JobInfo.{JobInfo}
 use Rattle.keeper_catalog.specs.declared.SetInfo.{SetInfo}
 use Rattle.keeper_catalog.specs.Catalog.{Memo, set_info, listed, table_at, AreTables, IsMemoOf}
-use Rattle.keeper_catalog.specs.View.{job_info}
 use Rattle.commit_laws.proofs.Listing.{all_at, all_weaker, all_map, all_of, found_append, found_is, found_where, none_where, range_ascends}
 use Rattle.commit_laws.proofs.Committing.{job_ids, job_low}
-use Rattle.keeper_jobs.specs.Jobs.{tables_at, tables_from, AreKeyed, Commits, version_by}
+use Rattle.keeper_jobs.specs.Jobs.{tables_from, AreKeyed, Commits, version_by}
 
 length_map : {X Y : Type 0} (f : X → Y) (xs : List X) → length (map f xs) ≡ length xs
 length_map f [] = refl

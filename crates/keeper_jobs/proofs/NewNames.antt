@@ -1,24 +1,20 @@
 -- The names of a container that a job puts are new.
-use Rattle.std.proofs.Common.{◌≡◌, ◌≢◌, ◌⊎◌, inl, inr, ⊎_elim, ℕ, zero, suc, ◌<◌, ◌≤◌, ◌+◌, length, map, List, [], ◌∷◌, ◌++◌, Option, Some, None, refl, sym, ◌∙◌, ap, subst, arith, get_or}
-use Rattle.std.specs.Prelude.{Contains, IsSome, IfSome, slice_index_or}
-use Rattle.std.specs.List.{AllByRecursion, All, range_with_len}
+use Rattle.std.proofs.Common.{◌≡◌, ◌≢◌, ◌⊎◌, inl, inr, ⊎_elim, ℕ, zero, suc, ◌<◌, ◌+◌, length, map, List, [], ◌∷◌, ◌++◌, Option, None, refl, sym, ◌∙◌, ap, subst, arith, get_or}
+use Rattle.std.specs.Prelude.{Contains, IfSome, slice_index_or}
+use Rattle.std.specs.List.{AllByRecursion, range_with_len}
 use Rattle.std.proofs.Math.ListN.{get_or-map}
 use Rattle.std.proofs.lemmas.List.FromFn.{get_or-range_with_len}
 use Rattle.std.proofs.lemmas.List.Elements.{Contains-append_left, Contains-append_right, Contains-append_cases, Contains-push, Contains-push_cases}
 use Rattle.vault_types.specs.declared.Name.{Name}
 use Rattle.vault_types.specs.Tables.{Container, id_of}
-use Rattle.vault_types.specs.State.{State, next_of, IsValid}
-use Rattle.vault_types.specs.Shelf.{Blobs, with_blob, HasContainer, table_name, payload_name, recipe_name, floor_name}
-use Rattle.vault_types.specs.Events.{Core, Job, Held, put_by, put_in, pinned_containers, IsCore, IsContainerName, IsNeeded, after_put}
+use Rattle.vault_types.specs.State.{next_of}
+use Rattle.vault_types.specs.Shelf.{Blobs, table_name, payload_name}
+use Rattle.vault_types.specs.Events.{Core, Held, put_by, pinned_containers, IsCore, IsContainerName, IsNeeded}
 use Rattle.vault_types.proofs.NextLemmas.{ids_below}
-use Rattle.vault_types.specs.declared.Table.{Table}
-use Rattle.vault_types.specs.Blobs.{table_bytes}
-use Rattle.vault_traits.specs.Shelf.{blobs_with}
-use Rattle.vault_traits.proofs.Maps.{get_is, get_other}
 use Rattle.keeper_jobs.specs.Jobs.{Puts, names_of}
-use Rattle.keeper_parts.specs.Parts.{HeldIfTold, IsSpare, IsIdle, IsFree, with_strays}
+use Rattle.keeper_parts.specs.Parts.{HeldIfTold, IsSpare, IsFree, with_strays}
 use Rattle.keeper_parts.proofs.Standing.{needs_beside, held_more}
-use Rattle.keeper_parts.proofs.Changing.{told_more, told_same, recipe_no_table, recipe_no_payload, floor_no_table, floor_no_payload}
+use Rattle.keeper_parts.proofs.Changing.{told_more, recipe_no_table, recipe_no_payload, floor_no_table, floor_no_payload}
 
 all_at : (P : Container → Type 0) (cs : List Container) (c : Container) → AllByRecursion P cs → Contains cs c → P c
 all_at P [] c all h = absurd (omega (arith, h.1))

@@ -1,7 +1,7 @@
 -- What the shelf holds behind a commit, in the words of the memory.
-use Rattle.std.proofs.Common.{◌≡◌, ◌≢◌, ◌⊎◌, inl, inr, ⊎_elim, ℕ, zero, suc, ◌<◌, ◌≤◌, ◌+◌, ◌-◌, length, map, Bool, true, false, cond, not, ◌&&◌, ◌||◌, List, [], ◌∷◌, ◌++◌, Option, Some, None, refl, sym, ◌∙◌, ap, subst, arith, get_or, take, length-append}
-use Rattle.std.specs.Prelude.{Contains, IsSome, IfSome, nat_eq, nat_le, nat_lt, ◌==◌, slice_index_or}
-use Rattle.std.specs.List.{AllByRecursion, range_with_len}
+use Rattle.std.proofs.Common.{◌≡◌, ◌≢◌, ◌⊎◌, inl, inr, ⊎_elim, ℕ, zero, suc, ◌<◌, ◌≤◌, ◌+◌, ◌-◌, length, Bool, true, false, not, ◌&&◌, ◌||◌, List, [], ◌∷◌, ◌++◌, Option, Some, None, refl, sym, ◌∙◌, ap, subst, arith, get_or, take, length-append}
+use Rattle.std.specs.Prelude.{Contains, nat_eq, nat_le, nat_lt, ◌==◌}
+use Rattle.std.specs.List.{range_with_len}
 use Rattle.std.proofs.lemmas.Bool.Decides.{nat_tests}
 use Rattle.std.proofs.lemmas.List.Elements.{Contains-append_left, Contains-push, Contains-push_cases}
 use Rattle.std.proofs.lemmas.List.FromFn.{get_or-range_with_len}
@@ -16,9 +16,9 @@ use Rattle.vault_types.specs.declared.Recipe.{Recipe}
 use Rattle.vault_types.specs.Lists.{has}
 use Rattle.vault_types.specs.Blobs.{recipe_bytes}
 use Rattle.vault_types.specs.Tables.{Container, id_of}
-use Rattle.vault_types.specs.State.{State, next_of, latest_of, IsValid}
+use Rattle.vault_types.specs.State.{next_of}
 use Rattle.vault_types.specs.Shelf.{Blobs, kind_rank, same_name, table_name, payload_name, recipe_name}
-use Rattle.vault_types.specs.Events.{Core, Change, Job, put_by, pinned_containers, IsContainerName, IsNeeded, IsCore, CanCommit, Held, committed, commit_change, after_commit, after_refused}
+use Rattle.vault_types.specs.Events.{Core, Change, Job, pinned_containers, IsContainerName, IsNeeded, IsCore, CanCommit, Held, committed, commit_change, after_commit, after_refused}
 use Rattle.vault_traits.specs.Shelf.{blobs_with}
 use Rattle.keeper_parts.specs.Parts.{HeldIfTold, CanChange, change, with_strays}
 use Rattle.keeper_parts.proofs.Changing.{told_more, told_same, next_unneeded}

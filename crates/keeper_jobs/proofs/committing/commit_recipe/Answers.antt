@@ -1,4 +1,4 @@
-use Rattle.std.proofs.Common.{◌≡◌, ◌⊎◌, inl, inr, ℕ, ◌≤◌, ◌+◌, ◌-◌, ◌*◌, ◌&&◌, length, take, map, List, [], ◌∷◌, ◌++◌, Option, Some, None, refl, sym, ◌∙◌, ap, subst, arith}
+use Rattle.std.proofs.Common.{ℕ, ◌-◌, ◌&&◌, length, take, map, List, [], ◌∷◌, ◌++◌, Some, None, refl, sym, ◌∙◌, ap, subst, arith}
 use Rattle.std.specs.Prelude.{Err, nat_le, nat_lt, if◌then◌else◌, slice_index_or, slice_set}
 use Rattle.vault_types.specs.declared.Name.{Name}
 use Rattle.vault_types.specs.declared.Table.{Table}
@@ -11,9 +11,9 @@ use Rattle.vault_traits.specs.Crash.{LeavesOnlyIfTold}
 use Rattle.set_markers.specs.SetMarkers.{Marked, AreMarkersOfSets}
 use Rattle.fp_index.specs.Index.{IsIndexOf}
 use Rattle.keeper_catalog.specs.declared.SetInfo.{SetInfo}
-use Rattle.keeper_catalog.specs.Catalog.{memo_of, set_info, table_at, versions_in, HasRoom}
-use Rattle.keeper_jobs.specs.Jobs.{tables_from, AreKeyed, uncommitted, Commits, version_by}
-use Rattle.keeper_jobs.proofs.Commits.{keyed, known_below, index_more, still_memo, done_memo, latest_is, in_range, set_is}
+use Rattle.keeper_catalog.specs.Catalog.{set_info, table_at, versions_in}
+use Rattle.keeper_jobs.specs.Jobs.{tables_from, AreKeyed, uncommitted, version_by}
+use Rattle.keeper_jobs.proofs.Commits.{keyed, known_below, index_more, still_memo, done_memo, latest_is, in_range}
 use Rattle.keeper_jobs.proofs.Rooms.{one_version, one_goes, more_ids}
 use Rattle.keeper_jobs.proofs.Written.{recipe_goes, pushed_is, change_here, can_here, done_held, half_held, before_held, popped}
 use Rattle.keeper_jobs.proofs.committing.commit_recipe.Goals as goal

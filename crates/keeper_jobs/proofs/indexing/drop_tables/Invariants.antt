@@ -1,4 +1,4 @@
-use Rattle.std.proofs.Common.{◌≡◌, ◌<◌, ◌-◌, ◌++◌, List}
+use Rattle.std.proofs.Common.{◌<◌, ◌-◌, ◌++◌, List}
 use Rattle.std.specs.List.{AllByRecursion}
 use Rattle.vault_types.specs.declared.Table.{Table}
 use Rattle.fp_index.specs.Index.{IsIndexOf}

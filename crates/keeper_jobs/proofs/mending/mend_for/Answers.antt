@@ -1,7 +1,5 @@
-use Rattle.std.proofs.Common.{arith, sym, ◌∙◌, ◌≡◌, Option, Some, ℕ}
+use Rattle.std.proofs.Common.{arith, sym, ◌∙◌, ◌≡◌, Some}
 use Rattle.keeper_jobs.specs.Jobs.{mended_by}
-use Rattle.keeper_parts.specs.Parts.{Mends}
-use Rattle.std.proofs.Common.{◌≤◌}
 use Rattle.keeper_parts.proofs.Changing.{latest_low}
 use Rattle.keeper_parts.proofs.Growing.{floor_pos}
 use Rattle.keeper_jobs.proofs.Seeing.{mends, floor_low}

@@ -1,4 +1,4 @@
-use Rattle.std.proofs.Common.{◌≡◌, sym, ap, subst}
+use Rattle.std.proofs.Common.{sym, ap, subst}
 use Rattle.set_markers.specs.SetMarkers.{Marked, AreMarkersOfSets}
 use Rattle.keeper_catalog.specs.Catalog.{Memo}
 use Rattle.keeper_jobs.proofs.noting.prepare.Goals as goal

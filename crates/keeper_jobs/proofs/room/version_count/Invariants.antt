@@ -1,4 +1,4 @@
-use Rattle.std.proofs.Common.{◌≡◌, ◌+◌, ◌≤◌, ◌*◌, take}
+use Rattle.std.proofs.Common.{◌≡◌, ◌≤◌, ◌*◌, take}
 use Rattle.keeper_catalog.specs.Catalog.{versions_in}
 use Rattle.keeper_jobs.proofs.room.version_count.Given as goal
 

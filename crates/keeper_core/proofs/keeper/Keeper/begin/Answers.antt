@@ -1,7 +1,6 @@
-use Rattle.std.proofs.Common.{◌≡◌, ◌<◌, ◌≤◌, ◌+◌, ℕ, List, Option, Some, refl, sym, subst, ap, ◌∙◌, arith, map, length}
+use Rattle.std.proofs.Common.{◌+◌, ℕ, List, refl, sym, subst, ap, ◌∙◌, arith, map, length}
 use Rattle.std.specs.Prelude.{fold, max}
 use Rattle.vault_types.specs.Events.{after_begin}
-use Rattle.vault_types.specs.State.{dataset}
 use Rattle.vault_types.specs.declared.Fp.{Fp}
 use Rattle.vault_types.specs.Tables.{Container}
 use Rattle.fp_index.specs.Index.{IsIndexOf}

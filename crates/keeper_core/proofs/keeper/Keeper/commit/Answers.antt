@@ -1,13 +1,10 @@
-use Rattle.std.proofs.Common.{◌≡◌, inl, inr, ℕ, List, Option, Some, None, refl, sym, subst, ap, ◌∙◌}
-use Rattle.std.specs.Prelude.{Err, Result}
-use Rattle.vault_types.specs.declared.Fp.{Fp}
-use Rattle.vault_types.specs.Events.{Core, Job, CanCommit, after_commit, after_refused, commit_change}
-use Rattle.vault_types.specs.declared.Pending.{Pending}
+use Rattle.std.proofs.Common.{inl, inr, Some, None, refl, sym, subst, ap, ◌∙◌}
+use Rattle.std.specs.Prelude.{Err}
+use Rattle.vault_types.specs.Events.{Core, Job, commit_change}
 use Rattle.vault_types.specs.declared.Pending.TheVariants.{FailedFor}
-use Rattle.vault_traits.specs.declared.names.Refused.TheVariants as refused
 use Rattle.keeper_catalog.specs.View.{View, Keeps}
-use Rattle.keeper_jobs.specs.Jobs.{Commits, version_by}
-use Rattle.keeper_core.specs.Stands.{index_of, job_of}
+use Rattle.keeper_jobs.specs.Jobs.{version_by}
+use Rattle.keeper_core.specs.Stands.{job_of}
 use Rattle.keeper_core.proofs.Keeping.{commits_of, commit_done, commit_still, commit_halved}
 use Rattle.keeper_core.proofs.keeper.Keeper.commit.Goals as goal
 

@@ -1,20 +1,18 @@
-use Rattle.std.proofs.Common.{◌≡◌, ◌≢◌, ◌⊎◌, inl, inr, ◌<◌, ◌≤◌, ℕ, List, Option, Some, None, refl, sym, subst, ap, ◌∙◌, arith, length}
-use Rattle.vault_types.specs.declared.Pending.{Pending}
-use Rattle.vault_types.specs.declared.Pending.TheVariants.{Not, FailedFor}
+use Rattle.std.proofs.Common.{◌⊎◌, inl, inr, ◌<◌, List, Some, refl, sym, subst, ap, ◌∙◌, arith, length}
+use Rattle.vault_types.specs.declared.Pending.TheVariants.{Not}
 use Rattle.vault_types.specs.State.{latest_of}
-use Rattle.vault_types.specs.Delete.{delete, removed}
 use Rattle.vault_types.specs.declared.Answer.TheVariants.{Removed}
 use Rattle.vault_types.specs.Shelf.{Blobs}
-use Rattle.vault_types.specs.Events.{Core, IsNear, after_mend, after_delete, delete_change}
+use Rattle.vault_types.specs.Events.{Core, IsNear, after_mend, delete_change}
 use Rattle.vault_traits.specs.Crash.{LeavesNowIfTold, LeavesOnlyIfTold}
-use Rattle.vault_traits.proofs.Moments.{stays, then, ends, more}
+use Rattle.vault_traits.proofs.Moments.{stays, then, more}
 use Rattle.deletion_laws.specs.Deleting.{IsDeleting}
 use Rattle.keeper_catalog.specs.declared.SetInfo.{SetInfo}
 use Rattle.keeper_catalog.specs.View.{View, Keeps}
 use Rattle.keeper_jobs.specs.Jobs.{Sees}
 use Rattle.keeper_jobs.proofs.Seeing.{alone, not_failed}
-use Rattle.keeper_core.specs.Stands.{index_of, job_of}
-use Rattle.keeper_core.proofs.Keeping.{sees_of, mended, mended_core, sets_count}
+use Rattle.keeper_core.specs.Stands.{index_of}
+use Rattle.keeper_core.proofs.Keeping.{sees_of, mended, sets_count}
 use Rattle.keeper_core.proofs.Removing.{mended_now, removing_of, deleted, floor_after, halved}
 use Rattle.keeper_core.proofs.keeper.Keeper.delete_through.Goals as goal
 

@@ -1,4 +1,4 @@
-use Rattle.std.proofs.Common.{◌≡◌, ℕ, List, Option, Some, None, sym, subst, ap, ◌∙◌}
+use Rattle.std.proofs.Common.{◌≡◌, ℕ, Some, sym, subst, ap, ◌∙◌}
 use Rattle.std.specs.Prelude.{IsSome}
 use Rattle.std.specs.Global.{Vec}
 use Rattle.std.specs.Option.{option_copied}
@@ -8,7 +8,6 @@ use Rattle.vault_types.specs.Shelf.{payload_name}
 use Rattle.vault_types.specs.Events.{Core}
 use Rattle.blob_parts.specs.Causes.{Has, HasCauses}
 use Rattle.container_store.specs.Damages.{IsLoaded, IsPayloadOf, IsPayloadDamage}
-use Rattle.keeper_catalog.specs.Catalog.{table_at}
 use Rattle.keeper_catalog.specs.View.{View, Keeps}
 use Rattle.commit_laws.proofs.Listing.{some_same, none_some}
 use Rattle.keeper_core.specs.Calls.{Lists}

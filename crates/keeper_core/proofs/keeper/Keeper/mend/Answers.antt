@@ -1,4 +1,4 @@
-use Rattle.std.proofs.Common.{sym, subst, List, ap, ◌∙◌, ◌<◌, length}
+use Rattle.std.proofs.Common.{sym, subst, List}
 use Rattle.vault_types.specs.Events.{after_mend}
 use Rattle.keeper_catalog.specs.View.{View, Keeps}
 use Rattle.keeper_catalog.specs.declared.SetInfo.{SetInfo}

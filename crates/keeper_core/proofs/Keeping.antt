@@ -97,7 +97,8 @@ module _ (v : View) (K : Core) (keeps : Keeps v K) (told : ShelfTold) (waits : P
     memo = record { sets = keeps.memo.sets; tables = keeps.memo.tables; markers = keeps.memo.markers; strays = keeps.memo.strays };
     index = keeps.index;
     pins = keeps.pins;
-    alike = keeps.alike; pinned = keeps.pinned;
+    alike = keeps.alike;
+    pinned = keeps.pinned;
     job = keeps.job;
     pending = over;
   }
@@ -122,7 +123,8 @@ module _ (v : View) (K : Core) (keeps : Keeps v K) (told : ShelfTold) (waits : P
     };
     index = subst (λ (l : List (Fp × List ℕ)). IsIndexOf l (map (λ (c : Container). c.table) K.state.containers)) (sym index_eq) keeps.index;
     pins = keeps.pins;
-    alike = keeps.alike; pinned = keeps.pinned;
+    alike = keeps.alike;
+    pinned = keeps.pinned;
     job = job_eq ∙ (λ i. Some (record { set = s; first = at i; next = (at ∙ sym (add-zero (next_of K.state))) i }));
     pending = over;
   }
@@ -209,7 +211,8 @@ module _ (v : View) (K : Core) (keeps : Keeps v K) (j : JobInfo) (open_job : v.j
     };
     index = subst (λ (l : List (Fp × List ℕ)). IsIndexOf l (map (λ (c : Container). c.table) K.state.containers)) (sym same_index) keeps.index;
     pins = keeps.pins;
-    alike = keeps.alike; pinned = keeps.pinned;
+    alike = keeps.alike;
+    pinned = keeps.pinned;
     job = same_job ∙ keeps.job;
     pending = refl;
   }
@@ -242,7 +245,8 @@ module _ (v : View) (K : Core) (keeps : Keeps v K) (j : JobInfo) (open_job : v.j
       };
       index = subst (λ (l : List (Fp × List ℕ)). IsIndexOf l (map (λ (d : Container). d.table) K.state.containers)) (sym same_index) keeps.index;
       pins = keeps.pins;
-      alike = keeps.alike; pinned = keeps.pinned;
+      alike = keeps.alike;
+      pinned = keeps.pinned;
       job = ap (λ (i : JobInfo). Some i) (is ∙ info_at job_is.0 job_is.2) ∙ ap (λ (o : Option Job). option_map (job_info K.state) (option_map (put_in c) o)) (sym job_is.1);
       pending = keeps.pending;
     }
@@ -262,7 +266,8 @@ module _ (v : View) (K : Core) (keeps : Keeps v K) (j : JobInfo) (open_job : v.j
     };
     index = subst (λ (l : List (Fp × List ℕ)). IsIndexOf l (map (λ (d : Container). d.table) K.state.containers)) (sym same_index) keeps.index;
     pins = keeps.pins;
-    alike = keeps.alike; pinned = keeps.pinned;
+    alike = keeps.alike;
+    pinned = keeps.pinned;
     job = refl;
     pending = keeps.pending;
   }
@@ -288,7 +293,8 @@ module _ (v : View) (K : Core) (keeps : Keeps v K) (j : JobInfo) (open_job : v.j
       memo = memo;
       index = index_is;
       pins = keeps.pins;
-      alike = keeps.alike; pinned = keeps.pinned;
+      alike = keeps.alike;
+      pinned = keeps.pinned;
       job = refl;
       pending = keeps.pending;
     }
@@ -305,7 +311,8 @@ module _ (v : View) (K : Core) (keeps : Keeps v K) (j : JobInfo) (open_job : v.j
       memo = memo waits;
       index = index_is;
       pins = keeps.pins;
-      alike = keeps.alike; pinned = keeps.pinned;
+      alike = keeps.alike;
+      pinned = keeps.pinned;
       job = refl;
       pending = refl;
     }
@@ -321,7 +328,8 @@ module _ (v : View) (K : Core) (keeps : Keeps v K) (j : JobInfo) (open_job : v.j
           memo = let m = memo (FailedFor j.set) in record { sets = m.sets; tables = m.tables; markers = m.markers; strays = m.strays };
           index = index_is;
           pins = keeps.pins;
-          alike = keeps.alike; pinned = keeps.pinned;
+          alike = keeps.alike;
+          pinned = keeps.pinned;
           job = refl;
           pending = refl;
         }

@@ -54,12 +54,7 @@ impl<S: Shelf> Keeper<S> {
         let info = &sets[set as usize];
         let version = info.latest + 1;
         let sparse = copy_of(alloc, info.sparse.as_slice())?;
-        mend_for(
-            &mut self.shelf,
-            &self.catalog.sets,
-            &mut self.pending,
-            set,
-        )?;
+        mend_for(&mut self.shelf, &self.catalog.sets, &mut self.pending, set)?;
         let next = next_of_sets(&self.catalog.sets);
         let job = JobInfo {
             set,

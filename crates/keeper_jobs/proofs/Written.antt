@@ -163,12 +163,11 @@ module _ (m : Memo) (index : List (Fp × List ℕ)) (info : JobInfo) (r : Recipe
   pub left_is : AreStraysLeft K.strays (recipe_name job.set r.version) job.containers (uncommitted recipe info.first info.next (m.strays ++ recipe ∷ []))
   left_is = record {
     were = λ n there.
-        let passed = filter_passed stays (m.strays ++ recipe ∷ []) n there in
-        (
+        let passed = filter_passed stays (m.strays ++ recipe ∷ []) n there in (
           ⊎_elim
-            (λ old. subst (λ (l : List Name). Contains l n) c.memo.strays old)
-            (λ same. absurd (not_false (is_committed recipe info.first info.next n) passed (subst (λ (q : Name). is_committed recipe info.first info.next q ≡ true) same (recipe_goes recipe info.first info.next))))
-            (Contains-push_cases m.strays recipe n (filter_within stays (m.strays ++ recipe ∷ []) n there)),
+              (λ old. subst (λ (l : List Name). Contains l n) c.memo.strays old)
+              (λ same. absurd (not_false (is_committed recipe info.first info.next n) passed (subst (λ (q : Name). is_committed recipe info.first info.next q ≡ true) same (recipe_goes recipe info.first info.next))))
+              (Contains-push_cases m.strays recipe n (filter_within stays (m.strays ++ recipe ∷ []) n there)),
           (λ same. not_false (is_committed recipe info.first info.next n) passed (subst (λ (q : Name). is_committed recipe info.first info.next q ≡ true) (recipe_is ∙ sym same) (recipe_goes recipe info.first info.next))),
           (λ put. not_false (is_committed recipe info.first info.next n) passed (job_goes n put)),
         );

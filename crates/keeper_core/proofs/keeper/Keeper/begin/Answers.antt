@@ -22,12 +22,13 @@ overflow_add-version g c =
 pub invariant_of-self-2 : goal.invariant_of-self-2
 invariant_of-self-2 g c =
     let k = c.self.invariant.0 in
-    let sees = subst (λ (l : List SetInfo). Sees l c.self.inside.pending k.0) (sym c.deref.ensures.value) (sees_of _ k.0 k.1) in
-    ((
+    let sees = subst (λ (l : List SetInfo). Sees l c.self.inside.pending k.0) (sym c.deref.ensures.value) (sees_of _ k.0 k.1) in (
+      (
         after_begin c.args.set k.0.strays k.0,
         begun _ k.0 k.1 _ _ c.args.set _ _ _ (omega (arith, c.ranges.set.fits)) (c.next_of_sets-next.ensures ∙ ap (λ (l : List SetInfo). fold max 1 (map (λ i. i.next) l)) c.deref-2.ensures.value) c.lend-index.ensures.job c.lend-index.ensures.index.1 (ap (λ (v : View). v.job) c.self.view_is ∙ c.requires) c.in_ok-mend_for.ensures.over (c.in_ok-mend_for.ensures.mended k.0 sees k.1.held),
       ),
-      c.self.invariant.1)
+      c.self.invariant.1,
+    )
 
 pub returns-clause-ok : goal.returns-clause-ok
 returns-clause-ok g c K keeps =
@@ -35,8 +36,7 @@ returns-clause-ok g c K keeps =
     let sees = subst (λ (l : List SetInfo). Sees l c.self.inside.pending K) (sym c.deref.ensures.value) (sees_of _ K k) in
     let info = subst (λ (l : List SetInfo). Sees l c.self.inside.pending K) (sym c.as_slice-sets.ensures.value) (sees_of _ K k) in
     let i = info_is _ _ K info c.args.set _ (let count = sets_count _ K k in let len = ap length c.as_slice-sets.ensures.value in omega (arith, count, len, c.ranges.set.fits)) c.index-sets-set.is in
-    let next = c.next_of_sets-next.ensures ∙ ap (λ (l : List SetInfo). fold max 1 (map (λ i. i.next) l)) c.deref-2.ensures.value in
-    (
+    let next = c.next_of_sets-next.ensures ∙ ap (λ (l : List SetInfo). fold max 1 (map (λ i. i.next) l)) c.deref-2.ensures.value in (
       begun _ K k _ _ c.args.set _ _ _ (omega (arith, c.ranges.set.fits)) next c.lend-index.ensures.job c.lend-index.ensures.index.1 (ap (λ (v : View). v.job) c.self.view_is ∙ c.requires) c.in_ok-mend_for.ensures.over (c.in_ok-mend_for.ensures.mended K sees k.held),
       record {
         set = refl;

@@ -21,13 +21,14 @@ invariant_of-self g c =
     let k = c.self.invariant.0 in
     let job = ap job_of c.in-Lent.is in
     let next = subst (λ (o : Option JobInfo). IsSomeAnd o (λ j. c.args.sealed.table.id ≡ j.next)) (ap (λ (v : View). v.job) (sym c.self.view_is) ∙ job) c.requires.next in
-    let payload = subst (λ (o : Option (List ℕ)). IsSomeAnd o (IsWhole c.args.sealed.table)) (sym c.payload-payload.ensures.there) c.payload-payload.ensures.whole in
-    ((
+    let payload = subst (λ (o : Option (List ℕ)). IsSomeAnd o (IsWhole c.args.sealed.table)) (sym c.payload-payload.ensures.there) c.payload-payload.ensures.whole in (
+      (
         after_put c.args.sealed c.put_sealed.new.catalog.strays.items k.0,
         put_done _ k.0 k.1 c.in-Lent.job job c.args.sealed next c.table-table.ensures.rules payload _ _ _ _ c.in-Ok.ensures.done (ap index_of (sym c.in-Lent.is)) c.in-Ok.ensures.same.0 c.in-Ok.ensures.same.1 c.in-Ok.ensures.tables
             (c.in-Ok.ensures.held k.0 (puts_of _ k.0 k.1 c.in-Lent.job job _ next) k.1.held) c.in-Ok.ensures.there,
       ),
-      c.in-Ok.ensures.room)
+      c.in-Ok.ensures.room,
+    )
 
 pub returns-in-Ok-clause-ok : goal.returns-in-Ok-clause-ok
 returns-in-Ok-clause-ok g c K keeps =
@@ -42,13 +43,14 @@ pub invariant_of-self-in-Err : goal.invariant_of-self-in-Err
 invariant_of-self-in-Err g c =
     let k = c.self.invariant.0 in
     let job = ap job_of c.in-Lent.is in
-    let next = subst (λ (o : Option JobInfo). IsSomeAnd o (λ j. c.args.sealed.table.id ≡ j.next)) (ap (λ (v : View). v.job) (sym c.self.view_is) ∙ job) c.requires.next in
-    ((
+    let next = subst (λ (o : Option JobInfo). IsSomeAnd o (λ j. c.args.sealed.table.id ≡ j.next)) (ap (λ (v : View). v.job) (sym c.self.view_is) ∙ job) c.requires.next in (
+      (
         after_refused k.0.other k.0.job c.put_sealed.new.catalog.strays.items c.due_after-self-inside.result k.0,
         put_refused _ k.0 k.1 c.in-Lent.job job _ _ _ _ _ _ (c.due_after-self-inside.ensures ∙ ap (λ (j : JobInfo). due_after c.in-Err.fault j.set c.self.inside.pending) c.in-Err.ensures.refused) (ap index_of (sym c.in-Lent.is)) (ap (λ (j : JobInfo). Some j) c.in-Err.ensures.refused ∙ sym job) c.in-Err.ensures.same.0 c.in-Err.ensures.same.1 c.in-Err.ensures.as_before
             (c.in-Err.ensures.held k.0 (puts_of _ k.0 k.1 c.in-Lent.job job _ next) k.1.held),
       ),
-      c.in-Err.ensures.room)
+      c.in-Err.ensures.room,
+    )
 
 pub returns-in-Err-clause-err : goal.returns-in-Err-clause-err
 returns-in-Err-clause-err g c K keeps =

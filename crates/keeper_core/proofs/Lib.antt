@@ -2,3 +2,4 @@ pub mod Keeping
 pub mod Removing
 pub mod Openings
 pub mod Listing
+pub mod Pinnings

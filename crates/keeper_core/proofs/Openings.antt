@@ -1,5 +1,5 @@
 -- What a keeper keeps of a shelf that was opened, and over a call that only reads.
-use Rattle.std.proofs.Common.{◌≡◌, true, false, ℕ, ◌<◌, map, List, [], Option, Some, None, refl, sym, subst, arith}
+use Rattle.std.proofs.Common.{inl, inr, ⊎_elim, ap, ◌∙◌, ◌≡◌, true, false, ℕ, ◌<◌, map, List, [], Option, Some, None, refl, sym, subst, arith}
 use Rattle.std.specs.List.{IsDistinct}
 use Rattle.std.specs.Prelude.{nat_eq, IfSome, IsSome, Result, Ok, Err, IfOk}
 use Rattle.vault_types.specs.declared.Fp.{Fp}
@@ -7,7 +7,7 @@ use Rattle.vault_types.specs.declared.Name.{Name}
 use Rattle.vault_types.specs.declared.Pending.TheVariants.{Opened}
 use Rattle.vault_types.specs.declared.Recipe.{Recipe}
 use Rattle.vault_types.specs.State.{State, KeptVersion, version_of, IsValid}
-use Rattle.vault_types.specs.Blobs.{SpellsRecipe}
+use Rattle.vault_types.specs.Blobs.{SpellsRecipe, recipe_bytes}
 use Rattle.vault_types.specs.Shelf.{Blobs, recipe_name}
 use Rattle.vault_types.specs.Events.{Core, IsCore}
 use Rattle.vault_traits.specs.Told.{ShelfTold}
@@ -19,9 +19,10 @@ use Rattle.restore_pins.specs.Pins.{Listed, AreListsOf}
 use Rattle.fp_index.specs.Index.{IsIndexOf}
 use Rattle.commit_laws.specs.Laws.{SaysVersion}
 use Rattle.commit_laws.proofs.Listing.{no_member}
-use Rattle.commit_laws.proofs.Loading.{held_version}
+use Rattle.commit_laws.proofs.Loading.{held_version, held_says}
 use Rattle.commit_laws.proofs.Unique.{opens_unique}
 use Rattle.keeper_jobs.proofs.Seeing.{opened_failed}
+use Rattle.keeper_core.specs.Calls.{IsWholeOf}
 
 no_numbers : IsDistinct nat_eq []
 unfolding IsDistinct
@@ -71,3 +72,14 @@ says_version v K k s n r bytes keeps below kept tells there spells = at v.told.b
 pub ok_more : {T E : Type 0} (P Q : T → Type 0) (r : Result T E) → ((x : T) → P x → Q x) → IfOk r P → IfOk r Q
 ok_more P Q (Ok x) f h = f x h
 ok_more P Q (Err e) f h = tt
+
+-- and its whole is the version's
+pub says_whole : (v : View) (K : Core) (k : KeptVersion) (s n : ℕ) (r : Recipe) (bytes : List ℕ) → Keeps v K → s < 256 → version_of K.state s n ≡ Some k → IsSome v.told.blobs → Has v.told.blobs (recipe_name s n) (Some bytes) → SpellsRecipe s n bytes r → IsWholeOf v.told.blobs s n k r.whole
+says_whole v K k s n r bytes keeps below kept tells there spells = at v.told.blobs tells there keeps.held
+  where
+    at : (b : Option Blobs) → IsSome b → Has b (recipe_name s n) (Some bytes) → HeldIfTold b K → IsWholeOf b s n k r.whole
+    at None some has held = absurd (let clash : false ≡ true = some in cc)
+    at (Some m) some has held = ⊎_elim
+        (λ same. inl (ap (λ (q : Recipe). q.whole) same))
+        (λ same. inr (ap (λ (q : Recipe). q.whole) same.0, has ∙ ap (λ (l : List ℕ). Some l) (spells.spelled ∙ ap recipe_bytes same.0)))
+        (held_says K keeps.core s n k (omega (arith, below, keeps.core.state.sets)) kept m bytes r held has spells)

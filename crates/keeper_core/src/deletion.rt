@@ -1,6 +1,7 @@
 //! Deletions and releases.
-ghost use Rattle.std.specs.Prelude.{◌≡◌, ◌≤◌, ◌<◌, ◌+◌, ◌-◌, ◌^◌, ◌⊎◌, None, IfOk, IfErr, OnOk, OnErr, Err, IsTrue, length};
+ghost use Rattle.std.specs.Prelude.{◌≡◌, ◌≤◌, ◌<◌, ◌+◌, ◌-◌, ◌^◌, ◌⊎◌, None, IfOk, IfErr, OnOk, OnErr, Err, IsTrue, length, Contains};
 ghost use Rattle.vault_types.specs.declared.Fault.TheVariants as fault;
+ghost use Rattle.vault_types.specs.declared.Name.{Name as Named};
 ghost use Rattle.vault_types.specs.Lists.{has};
 ghost use Rattle.vault_types.specs.State.{latest_of};
 ghost use Rattle.vault_types.specs.Delete.{delete, removed};
@@ -8,6 +9,7 @@ ghost use Rattle.vault_types.specs.Events.{Core, IsNear, after_delete, after_rel
 ghost use Rattle.vault_traits.specs.Crash.{LeavesNowIfTold, LeavesOnlyIfTold};
 ghost use Rattle.restore_pins.specs.Pins.{numbers};
 ghost use Rattle.deletion_laws.specs.Deleting.{IsDeleting};
+ghost use Rattle.deletion_laws.specs.Releasing.{IsReleased};
 ghost use Rattle.keeper_parts.specs.Parts.{HeldIfTold};
 ghost use Rattle.keeper_catalog.specs.View.{Keeps};
 ghost use Rattle.keeper_core.specs.Calls.{IsHalf, IsDeletionFault};
@@ -89,7 +91,9 @@ impl<S: Shelf> Keeper<S> {
         ensures any_moment { (K : Core) → Keeps self.old K → LeavesNowIfTold self.old.told.history (IsNear K.state K.other)
             → LeavesOnlyIfTold self.old.told.history self.new.told.history (IsNear K.state K.other) }
 
-        // At most one name is left for each removal that failed.
+        // Each stray was one before or is a name that the pin alone held, and at most one is left for each removal that
+        // failed.
+        ensures within { (K : Core) → Keeps self.old K → (n : Named) → Contains self.new.memo.strays n → Contains self.old.memo.strays n ⊎ IsReleased K no n }
         ensures few { self.new.told.faults < 2 ^ 64 - 1 → length self.new.memo.strays + self.old.told.faults ≤ length self.old.memo.strays + self.new.told.faults }
         ensures gets { self.new.told.gets ≡ self.old.told.gets }
         ensures later { self.old.told.faults ≤ self.new.told.faults }

@@ -9,3 +9,4 @@ mod pinning;
 mod starting;
 
 pub use keeper::{Begun, Keeper};
+pub use pinning::Pinned;

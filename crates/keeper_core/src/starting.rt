@@ -7,6 +7,7 @@ ghost use Rattle.recipe_store.specs.Damages.{IsRecipeDamage};
 ghost use Rattle.keeper_open.specs.Damage.{IsDamageOf};
 ghost use Rattle.keeper_catalog.specs.View.{Keeps, Opens, opened_core};
 ghost use Rattle.commit_laws.specs.Laws.{SaysVersion};
+ghost use Rattle.keeper_core.specs.Calls.{IsWholeOf};
 
 use crate::keeper::{Keeper, Stand};
 use keeper_open::{Opened, open};
@@ -18,8 +19,8 @@ use vault_types::{Fault, Pending, Recipe, Set, Version};
 
 impl<S: Shelf> Keeper<S> {
     /// Opens the store on a shelf: its floors, its recipes, its tables, and the rows of all recipes are read and checked,
-    /// in this order; payloads are not read. Writes nothing. `StoreFault`, `Damaged` with the first damage in that order,
-    /// `Memory`; the shelf then comes back.
+    /// in this order; payloads are not read. Writes nothing. `StoreFault`, where the shelf failed; `Damaged`, where the blobs
+    /// are those of no store, with the first damage in that order; `Memory`. The shelf then comes back, as it was.
     pub fn start(alloc: Global, mut shelf: S) -> Result<Keeper<S>, (Fault, S)>
         ensures opened { IfOk result (λ k. (T : State) × IfSome (S.told shelf).blobs (λ m. Opens m T) × Keeps k (opened_core T k.memo.strays)) }
         ensures each { IfOk result (λ k. IfSome (S.told shelf).blobs (λ m. (T : State) → Opens m T → Keeps k (opened_core T k.memo.strays))) }
@@ -43,9 +44,11 @@ impl<S: Shelf> Keeper<S> {
         }
     }
 
-    /// The recipe of a version, as the shelf has it. `StoreFault`, `Damaged`, `Memory`.
+    /// The recipe of a version, as the shelf has it. `StoreFault`, where the shelf failed; `Damaged`, where it has no blob of
+    /// that name or one that spells no such recipe; `Memory`. After an `Err`, too, all is as before.
     pub fn recipe(&mut self, alloc: Global, set: Set, version: Version) -> Result<Recipe, Fault>
         ensures says { IfOk result (λ r. IsSome self.old.told.blobs → (K : Core) (k : KeptVersion) → Keeps self.old K → version_of K.state set version ≡ Some k → SaysVersion r k) }
+        ensures whole { IfOk result (λ r. IsSome self.old.told.blobs → (K : Core) (k : KeptVersion) → Keeps self.old K → version_of K.state set version ≡ Some k → IsWholeOf self.old.told.blobs set version k r.whole) }
         ensures keeps { (K : Core) → Keeps self.old K → Keeps self.new K }
         ensures same { (self.new.memo ≡ self.old.memo) × (self.new.index ≡ self.old.index) × (self.new.pins ≡ self.old.pins) × (self.new.job ≡ self.old.job) × (self.new.pending ≡ self.old.pending) }
         ensures shelf { (self.new.told.blobs ≡ self.old.told.blobs) × (self.new.told.history ≡ self.old.told.history) × (self.new.told.gets ≡ self.old.told.gets) }

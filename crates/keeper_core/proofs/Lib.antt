@@ -3,3 +3,5 @@ pub mod Removing
 pub mod Openings
 pub mod Listing
 pub mod Pinnings
+pub mod Naming
+pub mod Replacings

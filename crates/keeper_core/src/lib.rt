@@ -6,7 +6,9 @@ mod deletion;
 mod job;
 mod keeper;
 mod pinning;
+mod replacing;
 mod starting;
+mod telling;
 
 pub use keeper::{Begun, Keeper};
 pub use pinning::Pinned;

@@ -1,0 +1,167 @@
+use Rattle.std.proofs.Common.{◌≡◌, ◌≤◌, ◌<◌, inl, inr, ℕ, List, Option, Some, None, refl, sym, subst, ap, ◌∙◌, arith, length}
+use Rattle.std.specs.Prelude.{IsSome}
+use Rattle.vault_types.specs.declared.Pending.TheVariants.{Not}
+use Rattle.vault_types.specs.declared.Recipe.{Recipe}
+use Rattle.vault_types.specs.Shelf.{Stands}
+use Rattle.vault_types.specs.Events.{Core, IsNear, Held, after_mend, after_refused}
+use Rattle.vault_traits.specs.Crash.{History, LeavesNowIfTold, LeavesOnlyIfTold}
+use Rattle.vault_traits.proofs.Moments.{then, more}
+use Rattle.recipe_store.specs.Damages.{IsRecipeDamage}
+use Rattle.keeper_parts.specs.Parts.{without_other}
+use Rattle.keeper_parts.proofs.Changing.{told_same, told_more, near_alone}
+use Rattle.keeper_catalog.specs.declared.SetInfo.{SetInfo}
+use Rattle.keeper_catalog.specs.View.{View, Keeps}
+use Rattle.keeper_jobs.specs.Jobs.{Sees}
+use Rattle.keeper_jobs.proofs.Seeing.{alone, not_failed}
+use Rattle.keeper_open.proofs.Gathering.{causes_again}
+use Rattle.keeper_core.proofs.Keeping.{sees_of, mended, mended_core}
+use Rattle.keeper_core.proofs.Removing.{mended_now}
+use Rattle.keeper_core.proofs.Replacings.{version_there, damage_before, whole_rules, of_state, says, spelled, unmended, refused, refused_keeps, waits_why, near_wider, err_any}
+use Rattle.keeper_core.proofs.keeper.Keeper.replace.Goals as goal
+
+pub replace_recipe-requires : goal.replace_recipe-requires
+replace_recipe-requires g c = whole_rules c.in_ok-recipe.recipe c.with_whole-recipe.result c.args.whole c.in_ok-recipe.ensures.found.2.rules c.requires.sum c.with_whole-recipe.ensures
+
+pub returns-in_err-mend_for-clause-err : goal.returns-in_err-mend_for-clause-err
+returns-in_err-mend_for-clause-err g c = err_any c.from_residual.result (λ K keeps.
+    let k = subst (λ (v : View). Keeps v K) (sym c.self.view_is) keeps in
+    let sees = subst (λ (l : List SetInfo). Sees l c.self.inside.pending K) (sym c.deref.ensures.value) (sees_of _ K k) in
+    unmended _ K k (g.S.Shelf.told c.mend_for.new.shelf) c.mend_for.new.pending c.in_err-mend_for.ensures.waits (c.mend_for.ensures.held K sees k.held))
+
+pub invariant_of-self-in_err-recipe : goal.invariant_of-self-in_err-recipe
+invariant_of-self-in_err-recipe g c =
+    let K : Core = c.self.invariant.0.0 in
+    let k = c.self.invariant.0.1 in
+    let keeps = subst (λ (v : View). Keeps v K) c.self.view_is k in
+    let sees = subst (λ (l : List SetInfo). Sees l c.self.inside.pending K) (sym c.deref.ensures.value) (sees_of _ K k) in
+    let held = c.in_ok-mend_for.ensures.mended K sees k.held in
+    let read = told_same (λ m. Held m (without_other K)) _ _ c.get_recipe.ensures.kept.blobs held in
+    ((after_mend K.strays K, mended _ K k (g.S.Shelf.told c.get_recipe.new.shelf) c.mend_for.new.pending c.in_ok-mend_for.ensures.over read), c.self.invariant.1)
+
+pub returns-in_err-recipe-clause-err : goal.returns-in_err-recipe-clause-err
+returns-in_err-recipe-clause-err g c = err_any c.from_residual-in_err-recipe.result (λ K keeps.
+    let k = subst (λ (v : View). Keeps v K) (sym c.self.view_is) keeps in
+    let sees = subst (λ (l : List SetInfo). Sees l c.self.inside.pending K) (sym c.deref.ensures.value) (sees_of _ K k) in
+    let held = c.in_ok-mend_for.ensures.mended K sees k.held in
+    let below : c.args.set < 256 = omega (arith, c.ranges.set.fits) in
+    let read = told_same (λ m. Held m (without_other K)) _ _ c.get_recipe.ensures.kept.blobs held in
+    refused _ K k (g.S.Shelf.told c.get_recipe.new.shelf) c.mend_for.new.pending c.args.set below (inl c.in_ok-mend_for.ensures.over) read)
+
+pub returns-in_err-recipe-clause-causes : goal.returns-in_err-recipe-clause-causes
+returns-in_err-recipe-clause-causes g c =
+    let K : Core = c.self.invariant.0.0 in
+    let k = c.self.invariant.0.1 in
+    let keeps = subst (λ (v : View). Keeps v K) c.self.view_is k in
+    let sees = subst (λ (l : List SetInfo). Sees l c.self.inside.pending K) (sym c.deref.ensures.value) (sees_of _ K k) in
+    let held = c.in_ok-mend_for.ensures.mended K sees k.held in
+    let below : c.args.set < 256 = omega (arith, c.ranges.set.fits) in
+    let inside : c.args.set < length K.state.datasets = omega (arith, below, k.core.state.sets) in
+    let kv = version_there K.state c.args.set c.args.version k.core.state (c.requires.kept K keeps) in
+    let after = mended _ K k (g.S.Shelf.told c.mend_for.new.shelf) c.mend_for.new.pending c.in_ok-mend_for.ensures.over held in
+    let later = subst (λ (v : View). v.told.faults ≤ (g.S.Shelf.told c.mend_for.new.shelf).faults) c.self.view_is c.mend_for.ensures.causes.later in
+    causes_again _ _ _ (IsRecipeDamage (g.S.Shelf.told c.mend_for.new.shelf).blobs c.args.set c.args.version) (IsRecipeDamage c.args.self.now.told.blobs c.args.set c.args.version) later c.get_recipe.ensures.causes.later
+    (damage_before (after_mend K.strays K) after.core c.args.set c.args.version kv.0 inside kv.1 (g.S.Shelf.told c.mend_for.new.shelf).blobs c.args.self.now.told.blobs (λ some. c.mend_for.ensures.tells (subst (λ (v : View). IsSome v.told.blobs) (sym c.self.view_is) some)) after.held)
+    c.in_err-recipe.field-0.0 c.in_err-recipe.ensures.causes.each c.from_residual-in_err-recipe.result c.from_residual-in_err-recipe.ensures.1
+
+pub invariant_of-self-in_err-replace_recipe : goal.invariant_of-self-in_err-replace_recipe
+invariant_of-self-in_err-replace_recipe g c =
+    let K : Core = c.self.invariant.0.0 in
+    let k = c.self.invariant.0.1 in
+    let keeps = subst (λ (v : View). Keeps v K) c.self.view_is k in
+    let sees = subst (λ (l : List SetInfo). Sees l c.self.inside.pending K) (sym c.deref.ensures.value) (sees_of _ K k) in
+    let held = c.in_ok-mend_for.ensures.mended K sees k.held in
+    let below : c.args.set < 256 = omega (arith, c.ranges.set.fits) in
+    let read = told_same (λ m. Held m (without_other K)) _ _ c.get_recipe.ensures.kept.blobs held in
+    let of = of_state _ K k c.args.set c.args.version below (c.requires.kept K keeps) c.args.whole (λ some w at. c.requires.whole (subst (λ (v : View). IsSome v.told.blobs) c.self.view_is some) K w keeps at) (g.S.Shelf.told c.mend_for.new.shelf) c.mend_for.new.pending c.in_ok-mend_for.ensures.over (λ J s. c.mend_for.ensures.held J (subst (λ (l : List SetInfo). Sees l c.self.inside.pending J) (sym c.deref.ensures.value) s)) held c.in_ok-recipe.recipe c.with_whole-recipe.result c.in_ok-recipe.ensures.found c.with_whole-recipe.ensures _ c.get_recipe.ensures.kept.blobs in
+    let done = c.replace_recipe.ensures.held (without_other K) refl of read in
+    let set = ap (λ (p : Recipe). p.set) c.with_whole-recipe.ensures ∙ c.in_ok-recipe.ensures.found.2.set in
+    let why = waits_why c.in_err-replace_recipe.field-0.0 c.with_whole-recipe.result c.args.set c.mend_for.new.pending c.replace_recipe.new.pending c.in_ok-mend_for.ensures.over set c.in_err-replace_recipe.ensures.due in
+    ((after_refused None K.job K.strays c.replace_recipe.new.pending K, refused_keeps _ K k (g.S.Shelf.told c.replace_recipe.new.shelf) c.replace_recipe.new.pending c.args.set below why done), c.self.invariant.1)
+
+pub returns-in_err-replace_recipe-clause-err : goal.returns-in_err-replace_recipe-clause-err
+returns-in_err-replace_recipe-clause-err g c = err_any c.from_residual-in_err-replace_recipe.result (λ K keeps.
+    let k = subst (λ (v : View). Keeps v K) (sym c.self.view_is) keeps in
+    let sees = subst (λ (l : List SetInfo). Sees l c.self.inside.pending K) (sym c.deref.ensures.value) (sees_of _ K k) in
+    let held = c.in_ok-mend_for.ensures.mended K sees k.held in
+    let below : c.args.set < 256 = omega (arith, c.ranges.set.fits) in
+    let read = told_same (λ m. Held m (without_other K)) _ _ c.get_recipe.ensures.kept.blobs held in
+    let of = of_state _ K k c.args.set c.args.version below (c.requires.kept K keeps) c.args.whole (λ some w at. c.requires.whole (subst (λ (v : View). IsSome v.told.blobs) c.self.view_is some) K w keeps at) (g.S.Shelf.told c.mend_for.new.shelf) c.mend_for.new.pending c.in_ok-mend_for.ensures.over (λ J s. c.mend_for.ensures.held J (subst (λ (l : List SetInfo). Sees l c.self.inside.pending J) (sym c.deref.ensures.value) s)) held c.in_ok-recipe.recipe c.with_whole-recipe.result c.in_ok-recipe.ensures.found c.with_whole-recipe.ensures _ c.get_recipe.ensures.kept.blobs in
+    let done = c.replace_recipe.ensures.held (without_other K) refl of read in
+    let set = ap (λ (p : Recipe). p.set) c.with_whole-recipe.ensures ∙ c.in_ok-recipe.ensures.found.2.set in
+    let why = waits_why c.in_err-replace_recipe.field-0.0 c.with_whole-recipe.result c.args.set c.mend_for.new.pending c.replace_recipe.new.pending c.in_ok-mend_for.ensures.over set c.in_err-replace_recipe.ensures.due in
+    refused _ K k (g.S.Shelf.told c.replace_recipe.new.shelf) c.replace_recipe.new.pending c.args.set below why done)
+
+pub returns-in_err-replace_recipe-clause-any_moment : goal.returns-in_err-replace_recipe-clause-any_moment
+returns-in_err-replace_recipe-clause-any_moment g c K keeps here =
+    let k = subst (λ (v : View). Keeps v K) (sym c.self.view_is) keeps in
+    let sees = subst (λ (l : List SetInfo). Sees l c.self.inside.pending K) (sym c.deref.ensures.value) (sees_of _ K k) in
+    let held = c.in_ok-mend_for.ensures.mended K sees k.held in
+    let below : c.args.set < 256 = omega (arith, c.ranges.set.fits) in
+    let of = of_state _ K k c.args.set c.args.version below (c.requires.kept K keeps) c.args.whole (λ some w at. c.requires.whole (subst (λ (v : View). IsSome v.told.blobs) c.self.view_is some) K w keeps at) (g.S.Shelf.told c.mend_for.new.shelf) c.mend_for.new.pending c.in_ok-mend_for.ensures.over (λ J s. c.mend_for.ensures.held J (subst (λ (l : List SetInfo). Sees l c.self.inside.pending J) (sym c.deref.ensures.value) s)) held c.in_ok-recipe.recipe c.with_whole-recipe.result c.in_ok-recipe.ensures.found c.with_whole-recipe.ensures _ c.get_recipe.ensures.kept.blobs in
+    let now = subst (λ (v : View). LeavesNowIfTold v.told.history (IsNear K.state K.other)) (sym c.self.view_is) here in
+    let first = c.mend_for.ensures.any_moment K sees now in
+    let mid = mended_now K c.self.inside.pending _ _ (λ e. alone K k.core.other Not (sym k.pending ∙ e) not_failed) first (λ waits. c.in_ok-mend_for.ensures.acknowledged waits K sees k.held) in
+    let behind = subst (λ (h : Option History). LeavesNowIfTold h (IsNear K.state None)) (sym c.get_recipe.ensures.kept.history) mid in
+    let second = subst (λ (h : Option History). LeavesOnlyIfTold h (g.S.Shelf.told c.replace_recipe.new.shelf).history (IsNear K.state None)) c.get_recipe.ensures.kept.history (c.replace_recipe.ensures.any_moment K.state of behind) in
+    subst (λ (v : View). LeavesOnlyIfTold v.told.history (g.S.Shelf.told c.replace_recipe.new.shelf).history (IsNear K.state K.other)) c.self.view_is
+    (then (IsNear K.state K.other) _ _ _ first (more (IsNear K.state None) (IsNear K.state K.other) (near_wider K.state K.other) _ _ second))
+
+pub invariant_of-self-2 : goal.invariant_of-self-2
+invariant_of-self-2 g c =
+    let K : Core = c.self.invariant.0.0 in
+    let k = c.self.invariant.0.1 in
+    let keeps = subst (λ (v : View). Keeps v K) c.self.view_is k in
+    let sees = subst (λ (l : List SetInfo). Sees l c.self.inside.pending K) (sym c.deref.ensures.value) (sees_of _ K k) in
+    let held = c.in_ok-mend_for.ensures.mended K sees k.held in
+    let below : c.args.set < 256 = omega (arith, c.ranges.set.fits) in
+    let read = told_same (λ m. Held m (without_other K)) _ _ c.get_recipe.ensures.kept.blobs held in
+    let of = of_state _ K k c.args.set c.args.version below (c.requires.kept K keeps) c.args.whole (λ some w at. c.requires.whole (subst (λ (v : View). IsSome v.told.blobs) c.self.view_is some) K w keeps at) (g.S.Shelf.told c.mend_for.new.shelf) c.mend_for.new.pending c.in_ok-mend_for.ensures.over (λ J s. c.mend_for.ensures.held J (subst (λ (l : List SetInfo). Sees l c.self.inside.pending J) (sym c.deref.ensures.value) s)) held c.in_ok-recipe.recipe c.with_whole-recipe.result c.in_ok-recipe.ensures.found c.with_whole-recipe.ensures _ c.get_recipe.ensures.kept.blobs in
+    let done = c.replace_recipe.ensures.held (without_other K) refl of read in
+    ((after_mend K.strays K, mended _ K k (g.S.Shelf.told c.replace_recipe.new.shelf) c.replace_recipe.new.pending (c.in_ok-replace_recipe.ensures.not_due ∙ c.in_ok-mend_for.ensures.over) done), c.self.invariant.1)
+
+pub returns-clause-ok : goal.returns-clause-ok
+returns-clause-ok g c K keeps =
+    let k = subst (λ (v : View). Keeps v K) (sym c.self.view_is) keeps in
+    let sees = subst (λ (l : List SetInfo). Sees l c.self.inside.pending K) (sym c.deref.ensures.value) (sees_of _ K k) in
+    let held = c.in_ok-mend_for.ensures.mended K sees k.held in
+    let below : c.args.set < 256 = omega (arith, c.ranges.set.fits) in
+    let read = told_same (λ m. Held m (without_other K)) _ _ c.get_recipe.ensures.kept.blobs held in
+    let of = of_state _ K k c.args.set c.args.version below (c.requires.kept K keeps) c.args.whole (λ some w at. c.requires.whole (subst (λ (v : View). IsSome v.told.blobs) c.self.view_is some) K w keeps at) (g.S.Shelf.told c.mend_for.new.shelf) c.mend_for.new.pending c.in_ok-mend_for.ensures.over (λ J s. c.mend_for.ensures.held J (subst (λ (l : List SetInfo). Sees l c.self.inside.pending J) (sym c.deref.ensures.value) s)) held c.in_ok-recipe.recipe c.with_whole-recipe.result c.in_ok-recipe.ensures.found c.with_whole-recipe.ensures _ c.get_recipe.ensures.kept.blobs in
+    let done = c.replace_recipe.ensures.held (without_other K) refl of read in
+    mended _ K k (g.S.Shelf.told c.replace_recipe.new.shelf) c.replace_recipe.new.pending (c.in_ok-replace_recipe.ensures.not_due ∙ c.in_ok-mend_for.ensures.over) done
+
+pub returns-clause-spelled : goal.returns-clause-spelled
+returns-clause-spelled g c K kv keeps at =
+    let k = subst (λ (v : View). Keeps v K) (sym c.self.view_is) keeps in
+    let sees = subst (λ (l : List SetInfo). Sees l c.self.inside.pending K) (sym c.deref.ensures.value) (sees_of _ K k) in
+    let held = c.in_ok-mend_for.ensures.mended K sees k.held in
+    let below : c.args.set < 256 = omega (arith, c.ranges.set.fits) in
+    let says_all = says _ K k c.args.set c.args.version below (c.requires.kept K keeps) c.args.whole (λ some w at. c.requires.whole (subst (λ (v : View). IsSome v.told.blobs) c.self.view_is some) K w keeps at) (g.S.Shelf.told c.mend_for.new.shelf) c.mend_for.new.pending c.in_ok-mend_for.ensures.over (λ J s. c.mend_for.ensures.held J (subst (λ (l : List SetInfo). Sees l c.self.inside.pending J) (sym c.deref.ensures.value) s)) held c.in_ok-recipe.recipe c.with_whole-recipe.result c.in_ok-recipe.ensures.found c.with_whole-recipe.ensures _ c.get_recipe.ensures.kept.blobs kv at in
+    let set = ap (λ (p : Recipe). p.set) c.with_whole-recipe.ensures ∙ c.in_ok-recipe.ensures.found.2.set in
+    let number = ap (λ (p : Recipe). p.version) c.with_whole-recipe.ensures ∙ c.in_ok-recipe.ensures.found.2.number in
+    spelled c.args.set c.args.version kv c.with_whole-recipe.result (g.S.Shelf.told c.get_recipe.new.shelf).blobs _ says_all set number c.in_ok-replace_recipe.ensures.ok
+
+pub returns-clause-any_moment : goal.returns-clause-any_moment
+returns-clause-any_moment g c K keeps here =
+    let k = subst (λ (v : View). Keeps v K) (sym c.self.view_is) keeps in
+    let sees = subst (λ (l : List SetInfo). Sees l c.self.inside.pending K) (sym c.deref.ensures.value) (sees_of _ K k) in
+    let held = c.in_ok-mend_for.ensures.mended K sees k.held in
+    let below : c.args.set < 256 = omega (arith, c.ranges.set.fits) in
+    let of = of_state _ K k c.args.set c.args.version below (c.requires.kept K keeps) c.args.whole (λ some w at. c.requires.whole (subst (λ (v : View). IsSome v.told.blobs) c.self.view_is some) K w keeps at) (g.S.Shelf.told c.mend_for.new.shelf) c.mend_for.new.pending c.in_ok-mend_for.ensures.over (λ J s. c.mend_for.ensures.held J (subst (λ (l : List SetInfo). Sees l c.self.inside.pending J) (sym c.deref.ensures.value) s)) held c.in_ok-recipe.recipe c.with_whole-recipe.result c.in_ok-recipe.ensures.found c.with_whole-recipe.ensures _ c.get_recipe.ensures.kept.blobs in
+    let now = subst (λ (v : View). LeavesNowIfTold v.told.history (IsNear K.state K.other)) (sym c.self.view_is) here in
+    let first = c.mend_for.ensures.any_moment K sees now in
+    let mid = mended_now K c.self.inside.pending _ _ (λ e. alone K k.core.other Not (sym k.pending ∙ e) not_failed) first (λ waits. c.in_ok-mend_for.ensures.acknowledged waits K sees k.held) in
+    let behind = subst (λ (h : Option History). LeavesNowIfTold h (IsNear K.state None)) (sym c.get_recipe.ensures.kept.history) mid in
+    let second = subst (λ (h : Option History). LeavesOnlyIfTold h (g.S.Shelf.told c.replace_recipe.new.shelf).history (IsNear K.state None)) c.get_recipe.ensures.kept.history (c.replace_recipe.ensures.any_moment K.state of behind) in
+    subst (λ (v : View). LeavesOnlyIfTold v.told.history (g.S.Shelf.told c.replace_recipe.new.shelf).history (IsNear K.state K.other)) c.self.view_is
+    (then (IsNear K.state K.other) _ _ _ first (more (IsNear K.state None) (IsNear K.state K.other) (near_wider K.state K.other) _ _ second))
+
+pub returns-clause-acknowledged : goal.returns-clause-acknowledged
+returns-clause-acknowledged g c K keeps =
+    let k = subst (λ (v : View). Keeps v K) (sym c.self.view_is) keeps in
+    let sees = subst (λ (l : List SetInfo). Sees l c.self.inside.pending K) (sym c.deref.ensures.value) (sees_of _ K k) in
+    let held = c.in_ok-mend_for.ensures.mended K sees k.held in
+    let below : c.args.set < 256 = omega (arith, c.ranges.set.fits) in
+    let read = told_same (λ m. Held m (without_other K)) _ _ c.get_recipe.ensures.kept.blobs held in
+    let of = of_state _ K k c.args.set c.args.version below (c.requires.kept K keeps) c.args.whole (λ some w at. c.requires.whole (subst (λ (v : View). IsSome v.told.blobs) c.self.view_is some) K w keeps at) (g.S.Shelf.told c.mend_for.new.shelf) c.mend_for.new.pending c.in_ok-mend_for.ensures.over (λ J s. c.mend_for.ensures.held J (subst (λ (l : List SetInfo). Sees l c.self.inside.pending J) (sym c.deref.ensures.value) s)) held c.in_ok-recipe.recipe c.with_whole-recipe.result c.in_ok-recipe.ensures.found c.with_whole-recipe.ensures _ c.get_recipe.ensures.kept.blobs in
+    c.in_ok-replace_recipe.ensures.acknowledged K.state of (told_more (λ m. Held m (without_other K)) (λ m. Stands m K.state) _ (λ m h. near_alone K.state m h.near) read)

@@ -1,17 +1,16 @@
 -- The named containers, and their tables in memory.
-use Rattle.std.proofs.Common.{◌≡◌, ℕ, ◌<◌, ◌≤◌, ◌^◌, Bool, true, false, map, List, ◌++◌, Option, Some, None, refl, sym, ◌∙◌, ap, subst, arith}
-use Rattle.std.specs.Prelude.{option_map, IfSome}
-use Rattle.std.specs.Option.{option_or, option_copied}
-use Rattle.vault_types.specs.declared.Table.{Table}
+use Rattle.std.proofs.Common.{◌≡◌, ℕ, Bool, true, false, map, List, ◌++◌, Option, Some, None, sym, ◌∙◌, ap}
+use Rattle.std.specs.Prelude.{option_map}
+use Rattle.std.specs.Option.{option_or}
 use Rattle.vault_types.specs.Lists.{has}
 use Rattle.vault_types.specs.Marks.{Mark, marked_ids}
-use Rattle.vault_types.specs.Tables.{Container, id_of, payload_len, IsTable}
-use Rattle.vault_types.specs.State.{named, container_in}
+use Rattle.vault_types.specs.Tables.{Container, id_of, IsTable}
+use Rattle.vault_types.specs.State.{container_in}
 use Rattle.vault_types.specs.Events.{Core, put_by, pinned_containers}
 use Rattle.set_markers.specs.SetMarkers.{AreMarkersOfSets}
 use Rattle.keeper_catalog.specs.Catalog.{table_at}
 use Rattle.keeper_catalog.specs.View.{View, Keeps}
-use Rattle.commit_laws.proofs.Listing.{all_at, some_same, none_some, found_append, found_is}
+use Rattle.commit_laws.proofs.Listing.{all_at, found_append, found_is}
 use Rattle.deletion_laws.proofs.Members.{container_in-none, container_in-some}
 use Rattle.deletion_laws.proofs.Marking.{marked_are_named}
 

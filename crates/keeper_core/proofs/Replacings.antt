@@ -1,34 +1,30 @@
 -- What a keeper keeps over a recipe that is put again.
-use Rattle.std.proofs.Common.{◌≡◌, ◌≢◌, ◌⊎◌, inl, inr, ⊎_elim, ℕ, zero, suc, ◌<◌, ◌≤◌, ◌+◌, ◌-◌, ◌&&◌, ◌==◌, Bool, true, false, cond, length, List, [], ◌∷◌, Option, Some, None, refl, sym, ◌∙◌, ap, subst, arith}
-use Rattle.std.specs.Prelude.{Result, Ok, Err, OnErr, IsSome, IfSome, IsTrue, Contains, nat_le, nat_lt, slice_get, if◌then◌else◌}
-use Rattle.std.specs.List.{AllByRecursion}
-use Rattle.std.specs.FinMap as fin
+use Rattle.std.proofs.Common.{◌≡◌, ◌⊎◌, inl, inr, ⊎_elim, ℕ, zero, suc, ◌<◌, ◌≤◌, ◌-◌, ◌&&◌, ◌==◌, true, false, cond, length, List, [], ◌∷◌, Option, Some, None, refl, sym, ◌∙◌, ap, subst, arith}
+use Rattle.std.specs.Prelude.{Result, Ok, Err, OnErr, IsSome, IfSome, Contains, nat_le, nat_lt, slice_get, if◌then◌else◌}
 use Rattle.std.proofs.lemmas.Bool.Decides.{nat_tests}
 use Rattle.vault_types.specs.declared.Fault.{Fault}
 use Rattle.vault_types.specs.declared.Fault.TheVariants as fault
 use Rattle.vault_types.specs.declared.Fp.{Fp}
 use Rattle.vault_types.specs.declared.Kind.{Kind}
 use Rattle.vault_types.specs.declared.Kind.TheVariants as kind
-use Rattle.vault_types.specs.declared.Name.{Name}
 use Rattle.vault_types.specs.declared.Pending.{Pending}
-use Rattle.vault_types.specs.declared.Pending.TheVariants.{Not, Opened, FailedFor}
+use Rattle.vault_types.specs.declared.Pending.TheVariants.{Not, FailedFor}
 use Rattle.vault_types.specs.declared.Recipe.{Recipe}
 use Rattle.vault_types.specs.declared.Row.{Row}
 use Rattle.vault_types.specs.declared.Why.{Why}
 use Rattle.vault_types.specs.declared.Why.TheVariants as why
 use Rattle.vault_types.specs.Names.{fp, IsFp}
-use Rattle.vault_types.specs.State.{State, Dataset, KeptVersion, dataset, floor_of, latest_of, version_of, version_in, is_kept, recipe_of, length_of, IsValid}
+use Rattle.vault_types.specs.State.{State, KeptVersion, dataset, floor_of, latest_of, version_of, is_kept, recipe_of, length_of, IsValid}
 use Rattle.vault_types.specs.Blobs.{IsRecipe, SpellsRecipe, recipe_bytes, recipe_bytes_2}
-use Rattle.vault_types.specs.Shelf.{Blobs, recipe_name, floor_name, Stands, IsRecipeBlob}
-use Rattle.vault_types.specs.Events.{Core, Change, IsCore, IsNear, IsNeeded, IsChange, Held, pinned_containers, after_mend, after_refused}
+use Rattle.vault_types.specs.Shelf.{Blobs, recipe_name, floor_name}
+use Rattle.vault_types.specs.Events.{Core, Change, IsCore, IsNear, IsChange, Held, pinned_containers, after_mend, after_refused}
 use Rattle.vault_traits.specs.Told.{ShelfTold}
-use Rattle.vault_traits.specs.Counts.{Rose}
 use Rattle.vault_traits.specs.Shelf.{blobs_with}
 use Rattle.vault_traits.proofs.Maps.{get_is}
-use Rattle.blob_parts.specs.Causes.{Has, IsCause, IsStoreFault, IsUndamaged}
-use Rattle.recipe_store.specs.Damages.{IsRecipeDamage, IsRecipeWhy, IsNoRecipe}
+use Rattle.blob_parts.specs.Causes.{Has}
+use Rattle.recipe_store.specs.Damages.{IsRecipeDamage}
 use Rattle.keeper_parts.specs.Parts.{HeldIfTold, without_other}
-use Rattle.keeper_parts.proofs.Changing.{told_more, near_alone}
+use Rattle.keeper_parts.proofs.Changing.{told_more}
 use Rattle.keeper_parts.proofs.Standing.{needs_floor}
 use Rattle.keeper_parts.proofs.Growing.{floor_pos}
 use Rattle.keeper_catalog.specs.View.{View, Keeps}
@@ -40,9 +36,9 @@ use Rattle.keeper_jobs.specs.Jobs.{Sees}
 use Rattle.keeper_jobs.proofs.Seeing.{not_failed, failed_same}
 use Rattle.container_fill.proofs.SumLemmas.{fp-is_fp}
 use Rattle.recipe_replacement.specs.Replacing.{IsRecipeOf, IsRecipeOfIfTold, waits_after}
-use Rattle.keeper_core.specs.Replacing.{IsRefused, IsDueAfter}
+use Rattle.keeper_core.specs.Replacing.{IsRefused}
 use Rattle.keeper_core.proofs.Openings.{says_version}
-use Rattle.keeper_core.proofs.Keeping.{sees_of, mended}
+use Rattle.keeper_core.proofs.Keeping.{mended}
 
 -- a kept version is there
 
@@ -123,7 +119,15 @@ module _ (v : View) (K : Core) (keeps : Keeps v K) (told : ShelfTold) (waits : P
   unmended over held = (
     K.other,
     record {
-      core = record { state = keeps.core.state; job = keeps.core.job; tables = keeps.core.tables; payloads = keeps.core.payloads; job_set = keeps.core.job_set; pins = keeps.core.pins; numbers = keeps.core.numbers; alone = keeps.core.alone;
+      core = record {
+        state = keeps.core.state;
+        job = keeps.core.job;
+        tables = keeps.core.tables;
+        payloads = keeps.core.payloads;
+        job_set = keeps.core.job_set;
+        pins = keeps.core.pins;
+        numbers = keeps.core.numbers;
+        alone = keeps.core.alone;
         failed = λ t is. keeps.core.failed t (sym keeps.pending ∙ sym over ∙ is);
         other = subst (λ (p : Pending). IfSome K.other (λ h. (s : ℕ) × (p ≡ FailedFor s) × IsChange K.state s h)) (sym keeps.pending ∙ sym over) keeps.core.other;
       };

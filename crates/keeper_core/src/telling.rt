@@ -22,7 +22,8 @@ impl<S: Shelf> Keeper<S> {
         ensures { (K : Core) → Keeps self.now K → result ≡ is_full K.state set limits.now }
     {
         let next = u128::from(self.next_id());
-        limits.last <= self.latest(set) || next + u128::from(limits.chunks) > 9_223_372_036_854_775_808
+        limits.last <= self.latest(set)
+            || next + u128::from(limits.chunks) > 9_223_372_036_854_775_808
     }
 
     /// How many bytes the payload of a container has that a version names; none of another one, also where a pin lists it

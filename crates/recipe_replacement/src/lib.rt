@@ -66,3 +66,6 @@ fn waits_after(fault: &Fault, recipe: &Recipe, pending: Pending) -> Pending
         _ => pending,
     }
 }
+
+#[cfg(test)]
+mod tests;

@@ -1,4 +1,4 @@
-use Rattle.std.proofs.Common.{◌≡◌, ◌≤◌, ◌<◌, inl, inr, ℕ, List, Option, Some, None, refl, sym, subst, ap, ◌∙◌, arith, length}
+use Rattle.std.proofs.Common.{◌≤◌, ◌<◌, inl, List, Option, None, refl, sym, subst, ap, ◌∙◌, arith, length}
 use Rattle.std.specs.Prelude.{IsSome}
 use Rattle.vault_types.specs.declared.Pending.TheVariants.{Not}
 use Rattle.vault_types.specs.declared.Recipe.{Recipe}
@@ -14,7 +14,7 @@ use Rattle.keeper_catalog.specs.View.{View, Keeps}
 use Rattle.keeper_jobs.specs.Jobs.{Sees}
 use Rattle.keeper_jobs.proofs.Seeing.{alone, not_failed}
 use Rattle.keeper_open.proofs.Gathering.{causes_again}
-use Rattle.keeper_core.proofs.Keeping.{sees_of, mended, mended_core}
+use Rattle.keeper_core.proofs.Keeping.{sees_of, mended}
 use Rattle.keeper_core.proofs.Removing.{mended_now}
 use Rattle.keeper_core.proofs.Replacings.{version_there, damage_before, whole_rules, of_state, says, spelled, unmended, refused, refused_keeps, waits_why, near_wider, err_any}
 use Rattle.keeper_core.proofs.keeper.Keeper.replace.Goals as goal

@@ -148,10 +148,12 @@ module _ (v : View) (d : Draft) (is : IsDraft v d) where
   -- with the row of a chunk that is kept
   pub with_kept : (e : Draft) (q : Row) → e.set ≡ d.set → e.version ≡ d.version → e.next ≡ d.next → e.index ≡ d.index → e.rows ≡ d.rows ++ q ∷ []
       → ((tables : List Table) → IsIndexOf d.index tables → Some q.id ≡ newest tables q.fp) → FitsRow q → IsDraft v e
-  with_kept e q set version next index rows found fit = with_rows e (q ∷ []) set version next index rows
-      (has_fp_more K.state.containers job.containers q
-      (found_newest K.state.containers q (state_ascends K.state is.opened.keeps.core.state)
-      (sym (found (map (λ (c : Container). c.table) K.state.containers) (subst (λ l. IsIndexOf l (map (λ (c : Container). c.table) K.state.containers)) (sym is.opened.lent) is.opened.keeps.index)))), tt)
+  with_kept e q set version next index rows found fit = with_rows e (q ∷ []) set version next index rows (
+    has_fp_more K.state.containers job.containers q
+        (found_newest K.state.containers q (state_ascends K.state is.opened.keeps.core.state)
+        (sym (found (map (λ (c : Container). c.table) K.state.containers) (subst (λ l. IsIndexOf l (map (λ (c : Container). c.table) K.state.containers)) (sym is.opened.lent) is.opened.keeps.index)))),
+    tt,
+  )
       (fit, tt)
 
   -- with a container that was put

@@ -3,6 +3,7 @@ use Rattle.std.specs.Prelude.{◌≡◌, ℕ, ◌+◌, List, map, length, Contai
 use Rattle.std.specs.List.{AllByRecursion}
 use Rattle.vault_types.specs.declared.Row.{Row}
 use Rattle.vault_types.specs.declared.TableRow.{TableRow}
+use Rattle.vault_types.specs.declared.Recipe.{Recipe}
 use Rattle.vault_types.specs.State.{latest_of, next_of, HasFp}
 use Rattle.vault_types.specs.Events.{Core, Job}
 use Rattle.blob_parts.specs.Recipes.{FitsRow}
@@ -36,3 +37,10 @@ pub record IsDraft (v : View) (d : Draft) : Type 0 where
 -- the row of a chunk of this container
 abbrev pub row_in : ℕ → TableRow → Row
 row_in id r = record { fp = r.fp; id = id; len = r.len }
+
+-- the recipe says this set, this version, its next id and its rows
+pub record IsRecipeFor (set version next : ℕ) (rows : List Row) (r : Recipe) : Type 0 where
+  pub set_is : r.set ≡ set
+  pub version_is : r.version ≡ version
+  pub next_is : r.next ≡ next
+  pub rows_are : r.rows ≡ rows

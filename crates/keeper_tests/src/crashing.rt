@@ -50,7 +50,11 @@ fn a_crash_leaves_the_state_before_or_behind_the_event(rt: HostRuntime) -> Resul
             let mut shelf = keeper.close();
             for (version, bytes) in [(1, b"aaaa".as_slice()), (2, b"bbbb".as_slice())] {
                 if floor <= version && version <= latest {
-                    assert_eq!(rt; bytes_of(alloc, &mut shelf, 0, version)?.as_slice(), bytes, "at {stop} with {taken}");
+                    assert_eq!(rt;
+                        bytes_of(alloc, &mut shelf, 0, version)?.as_slice(),
+                        bytes,
+                        "at {stop} with {taken}"
+                    );
                 }
             }
         }

@@ -56,7 +56,10 @@ fn a_deletion_leaves_what_a_kept_version_names(rt: HostRuntime) -> Result<(), Fa
     assert_eq!(rt; keeper.recipe(alloc, 0, 2)?.rows.as_slice().len(), 1);
     let mut shelf = keeper.close();
     assert_eq!(rt; listing(alloc, &shelf)?.as_str(), "T1 P1 R2 F0");
-    assert_eq!(rt; bytes_of(alloc, &mut shelf, 0, 2)?.as_slice(), b"aaaa".as_slice());
+    assert_eq!(rt;
+        bytes_of(alloc, &mut shelf, 0, 2)?.as_slice(),
+        b"aaaa".as_slice()
+    );
     Ok(())
 }
 
@@ -71,7 +74,10 @@ fn a_deletion_removes_what_no_kept_version_names(rt: HostRuntime) -> Result<(), 
     assert_eq!(rt; summary(&keeper), (2, 2, 3));
     let mut shelf = keeper.close();
     assert_eq!(rt; listing(alloc, &shelf)?.as_str(), "T2 P2 R2 F0");
-    assert_eq!(rt; bytes_of(alloc, &mut shelf, 0, 2)?.as_slice(), b"bbbb".as_slice());
+    assert_eq!(rt;
+        bytes_of(alloc, &mut shelf, 0, 2)?.as_slice(),
+        b"bbbb".as_slice()
+    );
     Ok(())
 }
 
@@ -98,7 +104,10 @@ fn the_index_forgets_a_newer_copy_with_its_container(rt: HostRuntime) -> Result<
     assert_eq!(rt; summary(&keeper), (3, 4, 5));
     let mut shelf = keeper.close();
     assert_eq!(rt; listing(alloc, &shelf)?.as_str(), "T2 T4 P2 P4 R3 R4 F0");
-    assert_eq!(rt; bytes_of(alloc, &mut shelf, 0, 3)?.as_slice(), b"dddd".as_slice());
+    assert_eq!(rt;
+        bytes_of(alloc, &mut shelf, 0, 3)?.as_slice(),
+        b"dddd".as_slice()
+    );
     assert_eq!(rt;
         bytes_of(alloc, &mut shelf, 0, 4)?.as_slice(),
         b"ccccddddeeee".as_slice()
@@ -129,7 +138,10 @@ fn what_an_aborted_job_has_put_stays_until_a_deletion(rt: HostRuntime) -> Result
     assert_eq!(rt; delete(&mut keeper, 0, 1), removed(1, 2, 0));
     let mut shelf = keeper.close();
     assert_eq!(rt; listing(alloc, &shelf)?.as_str(), "T1 P1 R2 F0");
-    assert_eq!(rt; bytes_of(alloc, &mut shelf, 0, 2)?.as_slice(), b"cccc".as_slice());
+    assert_eq!(rt;
+        bytes_of(alloc, &mut shelf, 0, 2)?.as_slice(),
+        b"cccc".as_slice()
+    );
     Ok(())
 }
 
@@ -163,7 +175,10 @@ fn a_damaged_store_comes_back_with_its_first_damage(rt: HostRuntime) -> Result<(
         let mut shelf = keeper.close();
         let name = Name { kind, number: 1 };
         if kind == Kind::Recipe {
-            let blob = shelf.blob(name).ok_or("the recipe is there")?.to_vec(alloc)?;
+            let blob = shelf
+                .blob(name)
+                .ok_or("the recipe is there")?
+                .to_vec(alloc)?;
             let (_, short) = blob.split_last().ok_or("it has bytes")?;
             if shelf.put(alloc, name, short).is_err() {
                 return Err(Fail::from("the bytes are put"));

@@ -29,7 +29,10 @@ fn a_recipe_that_failed_is_taken_back_by_the_next_job(rt: HostRuntime) -> Result
         }
         let mut shelf = keeper.close().into_inner();
         assert_eq!(rt; listing(alloc, &shelf)?.as_str(), text);
-        assert_eq!(rt; bytes_of(alloc, &mut shelf, 0, 1)?.as_slice(), b"aaaa".as_slice());
+        assert_eq!(rt;
+            bytes_of(alloc, &mut shelf, 0, 1)?.as_slice(),
+            b"aaaa".as_slice()
+        );
     }
     Ok(())
 }
@@ -65,26 +68,50 @@ fn at_call(
 // commit; the floor and its settling, and three removals.
 fn lines() -> [Line; 19] {
     [
-    at_call(2, 0, (1, 0, 1), "", ""),
-    at_call(3, 0, (1, 0, 1), "", "F0"),
-    at_call(4, 0, (1, 0, 1), "F0", "F0"),
-    at_call(5, 0, (1, 0, 1), "F0", "P1 F0"),
-    at_call(6, 0, (1, 0, 1), "P1 F0", "T1 P1 F0"),
-    at_call(7, 0, (1, 0, 1), "T1 P1 F0", "T1 P1 F0"),
-    at_call(8, 0, (1, 0, 1), "T1 P1 F0", "T1 P1 R1 F0"),
-    at_call(9, 0, (1, 0, 1), "T1 P1 R1 F0", "T1 P1 R1 F0"),
-    at_call(10, 1, (1, 1, 2), "T1 P1 R1 F0", "T1 P1 P2 R1 F0"),
-    at_call(11, 1, (1, 1, 2), "T1 P1 P2 R1 F0", "T1 T2 P1 P2 R1 F0"),
-    at_call(12, 1, (1, 1, 2), "T1 T2 P1 P2 R1 F0", "T1 T2 P1 P2 R1 F0"),
-    at_call(13, 1, (1, 1, 2), "T1 T2 P1 P2 R1 F0", "T1 T2 P1 P2 R1 R2 F0"),
-    at_call(14, 1, (1, 1, 2), "T1 T2 P1 P2 R1 R2 F0", "T1 T2 P1 P2 R1 R2 F0"),
-    at_call(15, 2, (1, 2, 3), "T1 T2 P1 P2 R1 R2 F0", "T1 T2 P1 P2 R1 R2 F0"),
-    at_call(16, 2, (1, 2, 3), "T1 T2 P1 P2 R1 R2 F0", "T1 T2 P1 P2 R1 R2 F0"),
-    at_call(17, 3, (2, 2, 3), "T2 P2 R1 R2 F0", "T2 P2 R2 F0"),
-    at_call(18, 3, (2, 2, 3), "T1 T2 P2 R2 F0", "T2 P2 R2 F0"),
-    at_call(19, 3, (2, 2, 3), "T2 P1 P2 R2 F0", "T2 P2 R2 F0"),
-    at_call(20, 3, (2, 2, 3), "T2 P2 R2 F0", "T2 P2 R2 F0"),
-]
+        at_call(2, 0, (1, 0, 1), "", ""),
+        at_call(3, 0, (1, 0, 1), "", "F0"),
+        at_call(4, 0, (1, 0, 1), "F0", "F0"),
+        at_call(5, 0, (1, 0, 1), "F0", "P1 F0"),
+        at_call(6, 0, (1, 0, 1), "P1 F0", "T1 P1 F0"),
+        at_call(7, 0, (1, 0, 1), "T1 P1 F0", "T1 P1 F0"),
+        at_call(8, 0, (1, 0, 1), "T1 P1 F0", "T1 P1 R1 F0"),
+        at_call(9, 0, (1, 0, 1), "T1 P1 R1 F0", "T1 P1 R1 F0"),
+        at_call(10, 1, (1, 1, 2), "T1 P1 R1 F0", "T1 P1 P2 R1 F0"),
+        at_call(11, 1, (1, 1, 2), "T1 P1 P2 R1 F0", "T1 T2 P1 P2 R1 F0"),
+        at_call(12, 1, (1, 1, 2), "T1 T2 P1 P2 R1 F0", "T1 T2 P1 P2 R1 F0"),
+        at_call(
+            13,
+            1,
+            (1, 1, 2),
+            "T1 T2 P1 P2 R1 F0",
+            "T1 T2 P1 P2 R1 R2 F0",
+        ),
+        at_call(
+            14,
+            1,
+            (1, 1, 2),
+            "T1 T2 P1 P2 R1 R2 F0",
+            "T1 T2 P1 P2 R1 R2 F0",
+        ),
+        at_call(
+            15,
+            2,
+            (1, 2, 3),
+            "T1 T2 P1 P2 R1 R2 F0",
+            "T1 T2 P1 P2 R1 R2 F0",
+        ),
+        at_call(
+            16,
+            2,
+            (1, 2, 3),
+            "T1 T2 P1 P2 R1 R2 F0",
+            "T1 T2 P1 P2 R1 R2 F0",
+        ),
+        at_call(17, 3, (2, 2, 3), "T2 P2 R1 R2 F0", "T2 P2 R2 F0"),
+        at_call(18, 3, (2, 2, 3), "T1 T2 P2 R2 F0", "T2 P2 R2 F0"),
+        at_call(19, 3, (2, 2, 3), "T2 P1 P2 R2 F0", "T2 P2 R2 F0"),
+        at_call(20, 3, (2, 2, 3), "T2 P2 R2 F0", "T2 P2 R2 F0"),
+    ]
 }
 
 #[test]
@@ -100,7 +127,12 @@ fn each_call_that_fails_is_told_and_the_next_event_mends(rt: HostRuntime) -> Res
                     assert_eq!(rt; answer.ok_or(Fault::Usage), removed(1, 2, 1));
                 }
                 Err(refused) => {
-                    assert_eq!(rt; refused, (line.event, Fault::StoreFault(1)), "at {}", line.call);
+                    assert_eq!(rt;
+                        refused,
+                        (line.event, Fault::StoreFault(1)),
+                        "at {}",
+                        line.call
+                    );
                 }
             }
             assert_eq!(rt; summary(&keeper), line.after, "at {}", line.call);
@@ -117,8 +149,16 @@ fn each_call_that_fails_is_told_and_the_next_event_mends(rt: HostRuntime) -> Res
             assert_eq!(rt; delete(&mut keeper, 0, 1), removed(1, 2, 0));
             assert_eq!(rt; summary(&keeper), (2, 2, 3), "at {}", line.call);
             let mut shelf = keeper.close().into_inner();
-            assert_eq!(rt; listing(alloc, &shelf)?.as_str(), "T2 P2 R2 F0", "at {}", line.call);
-            assert_eq!(rt; bytes_of(alloc, &mut shelf, 0, 2)?.as_slice(), b"bbbb".as_slice());
+            assert_eq!(rt;
+                listing(alloc, &shelf)?.as_str(),
+                "T2 P2 R2 F0",
+                "at {}",
+                line.call
+            );
+            assert_eq!(rt;
+                bytes_of(alloc, &mut shelf, 0, 2)?.as_slice(),
+                b"bbbb".as_slice()
+            );
             assert_eq!(rt; summary(&started(alloc, shelf)?), (2, 2, 3));
         }
     }
@@ -129,7 +169,10 @@ fn each_call_that_fails_is_told_and_the_next_event_mends(rt: HostRuntime) -> Res
         Err((fault, shelf)) => {
             assert_eq!(rt; fault, Fault::StoreFault(1));
             let mut keeper = started(alloc, shelf)?;
-            assert_eq!(rt; events_from(alloc, &mut keeper, 0), Ok(Some(removed(1, 2, 1)?)));
+            assert_eq!(rt;
+                events_from(alloc, &mut keeper, 0),
+                Ok(Some(removed(1, 2, 1)?))
+            );
         }
     }
     Ok(())

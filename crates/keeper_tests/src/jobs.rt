@@ -1,11 +1,13 @@
 //! Jobs of a keeper, as tests make them: rows for chunks that are kept, and new containers.
-ghost use Rattle.std.specs.Prelude.{◌≡◌, ◌≤◌, ◌^◌, ◌++◌, map, IfOk, OnOk, OnErr};
+ghost use Rattle.std.specs.Prelude.{◌≡◌, ◌≤◌, ◌<◌, ◌^◌, ◌++◌, map, length, IfOk, OnOk, OnErr};
+ghost use Rattle.std.specs.List.{AllByRecursion};
+ghost use Rattle.blob_parts.specs.Recipes.{FitsRow, HasWidths};
 ghost use Rattle.vault_types.specs.Tables.{IsTable};
 ghost use Rattle.vault_types.specs.Blobs.{IsRecipe};
 ghost use Rattle.keeper_catalog.specs.View.{View as Views};
-ghost use Rattle.keeper_tests.specs.Drafts.{IsIdle, IsOpen, IsDraft, row_in};
+ghost use Rattle.keeper_tests.specs.Drafts.{IsIdle, IsOpen, IsDraft, IsRecipeFor, row_in};
 
-use crate::sum;
+use crate::{row, sum};
 use blob_parts::has_rules;
 use container_fill::{Filled, Filler};
 use container_store::Sealed;
@@ -30,11 +32,7 @@ pub struct Draft {
 }
 
 /// Begins a job of a set. `Memory`, `StoreFault`: there is no job then.
-pub fn begin<S: Shelf>(
-    alloc: Global,
-    keeper: &mut Keeper<S>,
-    set: Set,
-) -> Result<Draft, Fault>
+pub fn begin<S: Shelf>(alloc: Global, keeper: &mut Keeper<S>, set: Set) -> Result<Draft, Fault>
     requires { IsIdle keeper.old }
     ensures ok { IfOk result (λ d. IsDraft keeper.new d) }
     ensures err { OnErr result (IsIdle keeper.new) }
@@ -68,9 +66,9 @@ pub fn add_kept(draft: &mut Draft, chunk: &[u8]) -> Result<(), Fault>
     if chunk.len() > 65_536 {
         return Err(Fault::Usage);
     }
-    let len = chunk.len() as u32;
+    let kept = row(id, chunk, chunk.len() as u32);
     draft.bytes.extend_from_slice(chunk)?;
-    draft.rows.push(Row { fp, id, len })?;
+    draft.rows.push(kept)?;
     Ok(())
 }
 
@@ -134,7 +132,10 @@ pub fn add_container<S: Shelf>(
     add_rows(&mut draft.rows, sealed.table())?;
     draft.bytes.extend_from_slice(payload)?;
     draft.next += 1;
-    keeper.put(alloc, sealed)
+    match keeper.put(alloc, sealed) {
+        Ok(()) => Ok(()),
+        Err(fault) => Err(fault),
+    }
 }
 
 /// Ends a job without a commit.
@@ -154,6 +155,10 @@ fn recipe_of(
     rows: ListOf<Row>,
     bytes: &[u8],
 ) -> Recipe
+    requires fits { AllByRecursion FitsRow rows }
+    requires few { length rows < 2 ^ 32 }
+    ensures widths { HasWidths result }
+    ensures says { IsRecipeFor set version next rows result }
 {
     Recipe {
         set,
@@ -166,12 +171,31 @@ fn recipe_of(
     }
 }
 
-/// Commits a job. `Usage`, `Memory`, `StoreFault`: the job is over.
-pub fn commit<S: Shelf>(
+// The recipe of these rows and bytes. `Usage` where it keeps not the rules of recipes, `Memory`.
+fn checked(
     alloc: Global,
-    keeper: &mut Keeper<S>,
-    draft: Draft,
-) -> Result<(), Fault>
+    set: Set,
+    version: Version,
+    next: Id,
+    rows: ListOf<Row>,
+    bytes: &[u8],
+) -> Result<Recipe, Fault>
+    requires fits { AllByRecursion FitsRow rows }
+    ensures rules { IfOk result IsRecipe }
+    ensures says { IfOk result (IsRecipeFor set version next rows) }
+{
+    if rows.as_slice().len() >= 4_294_967_296 {
+        return Err(Fault::Usage);
+    }
+    let recipe = recipe_of(alloc, set, version, next, rows, bytes);
+    if !has_rules(alloc, &recipe)? {
+        return Err(Fault::Usage);
+    }
+    Ok(recipe)
+}
+
+/// Commits a job. `Usage`, `Memory`, `StoreFault`: the job is over.
+pub fn commit<S: Shelf>(alloc: Global, keeper: &mut Keeper<S>, draft: Draft) -> Result<(), Fault>
     requires { IsDraft keeper.old draft }
     ensures { IsIdle keeper.new }
 {
@@ -183,16 +207,14 @@ pub fn commit<S: Shelf>(
         bytes,
         index,
     } = draft;
-    let recipe = recipe_of(alloc, set, version, next, rows, &bytes);
-    match has_rules(alloc, &recipe) {
-        Ok(true) => keeper.commit(alloc, index, recipe),
-        Ok(false) => {
+    match checked(alloc, set, version, next, rows, &bytes) {
+        Ok(recipe) => match keeper.commit(alloc, index, recipe) {
+            Ok(()) => Ok(()),
+            Err(fault) => Err(fault),
+        },
+        Err(fault) => {
             keeper.abort(index);
-            Err(Fault::Usage)
-        }
-        Err(memory) => {
-            keeper.abort(index);
-            Err(Fault::from(memory))
+            Err(fault)
         }
     }
 }
@@ -210,7 +232,9 @@ fn fill<S: Shelf>(
     ensures err { OnErr result (IsOpen keeper.new draft.new) }
 {
     for chunk in kept.chunks(4) {
-        add_kept(draft, chunk)?;
+        if let Err(fault) = add_kept(draft, chunk) {
+            return Err(fault);
+        }
     }
     for payload in payloads {
         add_container(alloc, keeper, draft, payload)?;
@@ -241,11 +265,7 @@ pub fn back_up<S: Shelf>(
 }
 
 /// Deletes the versions of a set through one. `LastVersion`, `StoreFault`.
-pub fn delete<S: Shelf>(
-    keeper: &mut Keeper<S>,
-    set: Set,
-    through: Version,
-) -> Result<Answer, Fault>
+pub fn delete<S: Shelf>(keeper: &mut Keeper<S>, set: Set, through: Version) -> Result<Answer, Fault>
     requires { IsIdle keeper.old }
     ensures { IsIdle keeper.new }
 {

@@ -43,7 +43,9 @@ fn add_chunk(
     let payload = load(alloc, shelf, &table)?;
     let mut rest = payload.as_slice();
     for row in table.rows.as_slice() {
-        let (chunk, behind) = rest.split_at_checked(row.len as usize).ok_or("the payload is whole")?;
+        let (chunk, behind) = rest
+            .split_at_checked(row.len as usize)
+            .ok_or("the payload is whole")?;
         if row.fp == fp {
             bytes.extend_from_slice(chunk)?;
             return Ok(());

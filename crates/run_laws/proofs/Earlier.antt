@@ -1,0 +1,68 @@
+-- A run of lines behind an opening, which leaves the shelf but for its count of faults.
+use Rattle.std.proofs.Common.{◌≡◌, ◌≤◌, ◌+◌, ◌-◌, ℕ, List, subst, arith}
+use Rattle.vault_types.specs.declared.Limits.{Limits}
+use Rattle.vault_types.specs.declared.Answer.{Answer}
+use Rattle.vault_types.specs.declared.Line.{Line}
+use Rattle.vault_types.specs.State.{State}
+use Rattle.vault_types.specs.Script.{Sources}
+use Rattle.vault_traits.specs.Told.{ShelfTold, PlacesTold}
+use Rattle.script_laws.specs.Causes.{Counts, CausesRise, counts_over}
+use Rattle.script_laws.specs.Complete.{IsComplete}
+use Rattle.script_laws.specs.Script.{RunsLines, MeansScript}
+use Rattle.script_laws.proofs.Rising.{rise_lower}
+use Rattle.run_laws.specs.Early.{IsSameBut}
+
+-- counts with an earlier one of the shelf
+abbrev pub with_store : Counts → ℕ → Counts
+with_store c n = record { store = n; place = c.place; read = c.read; write = c.write }
+
+pub causes_earlier : (old new : Counts) (n : ℕ) (answers : List Answer) → n ≤ old.store → CausesRise old new answers → CausesRise (with_store old n) new answers
+causes_earlier old new n answers later c = record { store = rise_lower n old.store new.store _ later c.store; place = c.place; read = c.read; write = c.write }
+
+pub complete_earlier : (limits : Limits) (sources : Sources) (S : State) (lines : List Line) (answers : List Answer) (old new : Counts) (n : ℕ) → n ≤ old.store
+    → IsComplete limits sources S lines answers old new → IsComplete limits sources S lines answers (with_store old n) new
+complete_earlier limits sources S lines answers old new n later c = record {
+  each = c.each;
+  sound = c.sound;
+  few = λ below. more _ _ _ _ _ _ later (c.few (record { store = below.store; place = below.place; read = below.read; write = below.write }));
+}
+  where
+    more : (k n m s b d : ℕ) → n ≤ m → k ≤ (s - m) + b + d + (new.write - old.write) → k ≤ (s - n) + b + d + (new.write - old.write)
+    more k n m s b d le h = omega arith
+
+-- a shelf with an earlier count of faults
+abbrev with_faults : ShelfTold → ℕ → ShelfTold
+with_faults old n = record { blobs = old.blobs; history = old.history; faults = n; gets = old.gets }
+
+means_earlier : (limits : Limits) (lines : List Line) (answers : List Answer) (mid new : ShelfTold) (n : ℕ) → n ≤ mid.faults → (sources : Sources) (S : State)
+    → MeansScript limits sources S lines answers mid new → MeansScript limits sources S lines answers (with_faults mid n) new
+means_earlier limits lines answers mid new n later sources S m = record {
+  table = m.table;
+  shelf = record { blobs = m.shelf.blobs; valid = m.shelf.valid; loads = m.shelf.loads };
+  strays = record { later = omega (arith, later, m.strays.later); others = m.strays.others; few = λ below. omega (arith, m.strays.few below, later, m.strays.later); each = m.strays.each };
+  crash = λ images. let c = m.crash images in record { any_moment = c.any_moment; at_the_end = c.at_the_end };
+}
+
+runs_earlier : (limits : Limits) (lines : List Line) (answers : List Answer) (mid new : ShelfTold) (before now : PlacesTold) (n : ℕ) → n ≤ mid.faults → (From To : State → Type 0) → ((S : State) → To S → From S)
+    → RunsLines From limits lines answers mid new before now → RunsLines To limits lines answers (with_faults mid n) new before now
+runs_earlier limits lines answers mid new before now n later From To from r = record {
+  kinds = r.kinds;
+  causes = causes_earlier (counts_over mid before) (counts_over new now) n answers later r.causes;
+  others = r.others;
+  means = λ S sources to fed. means_earlier limits lines answers mid new n later sources S (r.means S sources (from S to) fed);
+  outputs = λ S sources to fed. r.outputs S sources (from S to) fed;
+  complete = λ S sources to fed all. complete_earlier limits sources S lines answers (counts_over mid before) (counts_over new now) n later (r.complete S sources (from S to) fed all);
+}
+
+same_but : (old mid : ShelfTold) → IsSameBut old mid → with_faults mid old.faults ≡ old
+same_but old mid is = λ i. record { blobs = is.blobs i; history = is.history i; faults = old.faults; gets = is.gets i }
+
+-- a run behind the opening is a run from before it
+pub runs_opened : (limits : Limits) (lines : List Line) (answers : List Answer) (old mid new : ShelfTold) (before now : PlacesTold) (From To : State → Type 0) → IsSameBut old mid → ((S : State) → To S → From S)
+    → RunsLines From limits lines answers mid new before now → RunsLines To limits lines answers old new before now
+runs_opened limits lines answers old mid new before now From To same from r =
+    subst (λ (s : ShelfTold). RunsLines To limits lines answers s new before now) (same_but old mid same) (runs_earlier limits lines answers mid new before now old.faults same.later From To from r)
+
+pub means_opened : (limits : Limits) (sources : Sources) (S : State) (lines : List Line) (answers : List Answer) (old mid new : ShelfTold) → IsSameBut old mid → MeansScript limits sources S lines answers mid new → MeansScript limits sources S lines answers old new
+means_opened limits sources S lines answers old mid new same m =
+    subst (λ (s : ShelfTold). MeansScript limits sources S lines answers s new) (same_but old mid same) (means_earlier limits lines answers mid new old.faults same.later sources S m)

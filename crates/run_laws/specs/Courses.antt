@@ -1,0 +1,146 @@
+-- What a run of each command is, from its first line on.
+use Rattle.std.specs.Prelude.{◌≡◌, ◌+◌, ◌*◌, ◌^◌, ◌<◌, ◌≤◌, ◌&&◌, ◌==◌, ℕ, Bool, true, false, IsTrue, List, [], ◌∷◌, ◌++◌, length, codes, decimal, unwrap_or, Option, Some, IsSomeAnd, IfSome}
+use Rattle.vault_types.specs.declared.Limits.{Limits}
+use Rattle.vault_types.specs.declared.JobConfig.{JobConfig}
+use Rattle.vault_types.specs.declared.Kind.TheVariants as kind
+use Rattle.vault_types.specs.declared.Fault.{Fault}
+use Rattle.vault_types.specs.declared.Fault.TheVariants as fault
+use Rattle.vault_types.specs.declared.Answer.{Answer}
+use Rattle.vault_types.specs.declared.Answer.TheVariants.{Restored, Shown, Refused}
+use Rattle.vault_types.specs.declared.Line.{Line}
+use Rattle.vault_types.specs.declared.Line.TheVariants.{Backup, Restore, Delete}
+use Rattle.vault_types.specs.State.{State, is_kept, floor_of, latest_of, version_of, recipe_of}
+use Rattle.vault_types.specs.Bytes.{bytes_of}
+use Rattle.vault_types.specs.Generator.{generated, fill_lines}
+use Rattle.vault_types.specs.Script.{Sources, after, is_refused}
+use Rattle.vault_types.specs.Texts.{recipe_text, output_text}
+use Rattle.vault_traits.specs.Told.{ShelfTold, PlacesTold, SinkTold, Files, Takes}
+use Rattle.script_laws.specs.Calls.{HasWritten}
+use Rattle.script_laws.specs.Causes.{Counts, CausesRise, fits, counts_of_source, counts_of_sink, counts_of_shelf}
+use Rattle.script_laws.specs.Complete.{IsWell, IsComplete}
+use Rattle.script_laws.specs.Leaves.{Begins}
+use Rattle.script_laws.specs.Outputs.{AreFedBy}
+use Rattle.script_laws.specs.Script.{MeansScript, RunsLines}
+use Rattle.run_laws.specs.World.{World, IsPrinted, TakesFront, report_text}
+use Rattle.run_laws.specs.Early.{IsScript}
+
+-- a script of the input's lines over the places; the report is on `out`
+pub record RunsBatch (limits : Limits) (before now : World) (answers : List Answer) (f : Option Fault) : Type 0 where
+  pub lines : List Line
+  pub script : IsScript limits before.input lines
+  pub read : IfSome now.input.left (λ rest. rest ≡ [])
+  pub runs : RunsLines (Begins before.shelf) limits lines answers before.shelf now.shelf before.places now.places
+  pub printed : IsPrinted (report_text answers) before.out now.out f
+  pub report : now.report ≡ before.report
+
+-- the answer of a script of one line, whose source has these bytes: it is of the line's kind, a refusal has its cause, and it
+-- means what it should in each state that the shelf may begin with
+pub record RunsLine (limits : Limits) (Fed : List ℕ → Type 0) (line : Line) (before now : ShelfTold) (answer : Answer) (old new : Counts) : Type 0 where
+  pub kind : IsTrue (fits limits line answer)
+  pub causes : CausesRise old new (answer ∷ [])
+  pub means : (S : State) (x : List ℕ) → Begins before S → Fed x → MeansScript limits (λ _. x) S (line ∷ []) (answer ∷ []) before now
+  pub complete : (S : State) (x : List ℕ) → Begins before S → Fed x → IsWell limits (λ _. x) S (line ∷ []) → IsComplete limits (λ _. x) S (line ∷ []) (answer ∷ []) old new
+
+-- a backup of what the input has left; the report is on `out`
+pub record RunsBackup (set : ℕ) (config : JobConfig) (limits : Limits) (before now : World) (answers : List Answer) (f : Option Fault) : Type 0 where
+  pub answer : Answer
+  pub one : answers ≡ answer ∷ []
+  pub runs : RunsLine limits (λ x. before.input.left ≡ Some x) (Backup set [] config) before.shelf now.shelf answer (counts_of_source before.shelf before.input) (counts_of_source now.shelf now.input)
+  pub to_the_end : is_refused answer ≡ false → IfSome now.input.left (λ rest. rest ≡ [])
+  pub printed : IsPrinted (report_text answers) before.out now.out f
+  pub report : now.report ≡ before.report
+  pub places : now.places ≡ before.places
+
+-- a restore to `out`; the report is on `report`
+pub record RunsRestore (set version cache : ℕ) (limits : Limits) (before now : World) (answers : List Answer) (f : Option Fault) : Type 0 where
+  pub answer : Answer
+  pub one : answers ≡ answer ∷ []
+  pub runs : RunsLine limits (λ x. x ≡ []) (Restore set version [] cache) before.shelf now.shelf answer (counts_of_sink before.shelf before.out) (counts_of_sink now.shelf now.out)
+  pub written : (S : State) → Begins before.shelf S → HasWritten S set version answer before.out.taken now.out.taken
+  pub printed : IsPrinted (report_text answers) before.report now.report f
+  pub input : now.input ≡ before.input
+  pub places : now.places ≡ before.places
+
+-- a deletion; the report is on `out`
+pub record RunsDelete (set through : ℕ) (limits : Limits) (before now : World) (answers : List Answer) (f : Option Fault) : Type 0 where
+  pub answer : Answer
+  pub one : answers ≡ answer ∷ []
+  pub runs : RunsLine limits (λ x. x ≡ []) (Delete set through) before.shelf now.shelf answer (counts_of_shelf before.shelf) (counts_of_shelf now.shelf)
+  pub printed : IsPrinted (report_text answers) before.out now.out f
+  pub report : now.report ≡ before.report
+  pub input : now.input ≡ before.input
+  pub places : now.places ≡ before.places
+
+-- show
+
+-- whether an answer is one to `show`
+abbrev pub fits_show : ℕ → ℕ → Answer → Bool
+fits_show s v (Shown t w rows) = (s == t) && (v == w)
+fits_show s v (Refused (fault.NotKept t w floor latest)) = (s == t) && (v == w)
+fits_show s v (Refused (fault.Damaged kind.Recipe number why)) = number == s * 2 ^ 32 + v
+fits_show s v (Refused (fault.StoreFault n)) = true
+fits_show s v (Refused (fault.WriteFault n)) = true
+fits_show s v (Refused fault.Memory) = true
+fits_show s v other = false
+
+-- what `show` answers and writes of a version's recipe. A kept recipe is spelled, so that none is damaged
+abbrev pub IsShown : State → ℕ → ℕ → Answer → SinkTold → SinkTold → Type 0
+IsShown S s v (Shown t w rows) before now = IsSomeAnd (version_of S s v) (λ k. (rows ≡ length k.rows) × Takes before.taken now.taken (recipe_text (recipe_of s v k)))
+IsShown S s v (Refused (fault.NotKept t w floor latest)) before now =
+    (is_kept S s v ≡ false) × (floor ≡ floor_of S s) × (latest ≡ latest_of S s) × (now ≡ before)
+IsShown S s v (Refused (fault.WriteFault n)) before now = IsSomeAnd (version_of S s v) (λ k. TakesFront before now (recipe_text (recipe_of s v k)))
+IsShown S s v (Refused fault.Memory) before now = IsSomeAnd (version_of S s v) (λ k. TakesFront before now (recipe_text (recipe_of s v k)))
+IsShown S s v (Refused (fault.StoreFault n)) before now = IsTrue (is_kept S s v) × (now ≡ before)
+IsShown S s v other before now = ⊥
+
+-- the recipe of a version on `out`; the report, which is empty where it was shown, is on `report`
+pub record RunsShow (set version : ℕ) (before now : World) (answers : List Answer) (f : Option Fault) : Type 0 where
+  pub answer : Answer
+  pub one : answers ≡ answer ∷ []
+  pub kind : IsTrue (fits_show set version answer)
+  pub causes : CausesRise (counts_of_sink before.shelf before.out) (counts_of_sink now.shelf now.out) answers
+  pub shown : (S : State) → Begins before.shelf S → IsShown S set version answer before.out now.out
+  pub blobs : now.shelf.blobs ≡ before.shelf.blobs
+  pub history : now.shelf.history ≡ before.shelf.history
+  pub gets : now.shelf.gets ≡ before.shelf.gets
+  pub printed : IsPrinted (report_text answers) before.report now.report f
+  pub input : now.input ≡ before.input
+  pub places : now.places ≡ before.places
+
+-- fill
+
+-- what is printed of the restores that were done: the sum of the bytes under each name
+abbrev pub outputs_text : Files → List Line → List Answer → List ℕ
+outputs_text files [] answers = []
+outputs_text files (line ∷ lines) [] = []
+outputs_text files (Restore s v name cache ∷ lines) (Restored t w bytes loads ∷ answers) = output_text v (unwrap_or (files name) []) ++ outputs_text files lines answers
+outputs_text files (line ∷ lines) (answer ∷ answers) = outputs_text files lines answers
+
+-- a restore is refused by its sink only where its version is longer than the room of each output
+abbrev pub NeedRoom : Sources → State → List Line → List Answer → Type 0
+NeedRoom sources S [] answers = Unit {0}
+NeedRoom sources S (line ∷ lines) [] = Unit {0}
+NeedRoom sources S (Restore s v name cache ∷ lines) (Refused (fault.WriteFault n) ∷ answers) = (8388671 < length (bytes_of S s v)) × NeedRoom sources S lines answers
+NeedRoom sources S (line ∷ lines) (answer ∷ answers) = NeedRoom sources (after sources S line answer) lines answers
+
+-- places whose sources are the versions of the generator, and that have not failed
+pub record AreGenerated (seed versions : ℕ) (places : PlacesTold) : Type 0 where
+  pub sources : IsSomeAnd places.files (λ files. (v : ℕ) → 1 ≤ v → v ≤ versions → files (codes "gen-" ++ decimal v) ≡ Some (generated seed v))
+  pub opened : places.faults ≡ 0
+  pub read : places.read_faults ≡ 0
+  pub written : places.write_faults ≡ 0
+
+-- the script of `fill` over places of its own, none of which fails to be opened or read; the report and the sums of the
+-- outputs are on `out`
+pub record RunsFill (seed versions : ℕ) (limits : Limits) (before now : World) (answers : List Answer) (f : Option Fault) : Type 0 where
+  pub made : PlacesTold
+  pub left : PlacesTold
+  pub generated : AreGenerated seed versions made
+  pub opened : left.faults ≡ 0
+  pub read : left.read_faults ≡ 0
+  pub runs : RunsLines (Begins before.shelf) limits (fill_lines versions) answers before.shelf now.shelf made left
+  pub room : (S : State) (sources : Sources) → Begins before.shelf S → AreFedBy made.files sources (fill_lines versions) → NeedRoom sources S (fill_lines versions) answers
+  pub printed : IsSomeAnd left.files (λ files. IsPrinted (report_text answers ++ outputs_text files (fill_lines versions) answers) before.out now.out f)
+  pub report : now.report ≡ before.report
+  pub input : now.input ≡ before.input
+  pub places : now.places ≡ before.places

@@ -1,0 +1,4 @@
+pub mod World
+pub mod Early
+pub mod Courses
+pub mod Run

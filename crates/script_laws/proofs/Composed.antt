@@ -1,0 +1,137 @@
+-- What a chain of lines comes to, as a run of them.
+use Rattle.std.proofs.Common.{◌≡◌, inl, inr, ⊎_elim, ℕ, List, [], ◌∷◌, Option, Some, None, refl, sym, subst, arith}
+use Rattle.std.specs.Prelude.{IsSomeAnd, IfSome}
+use Rattle.vault_types.specs.declared.Limits.{Limits}
+use Rattle.vault_types.specs.declared.Answer.{Answer}
+use Rattle.vault_types.specs.declared.Line.{Line}
+use Rattle.vault_types.specs.State.{State, IsValid}
+use Rattle.vault_types.specs.Script.{Sources, after, state_after, Reaches}
+use Rattle.vault_types.specs.Shelf.{Blobs, Stands}
+use Rattle.vault_types.specs.Events.{Change, IsNear, IsChange}
+use Rattle.vault_traits.specs.Told.{ShelfTold, Files}
+use Rattle.vault_traits.proofs.Moments.{more, more_now}
+use Rattle.script_laws.specs.Causes.{AreFitting, CausesRise, Counts, counts_over, store_number, place_number, read_number, write_number}
+use Rattle.script_laws.specs.Leaves.{MayBeDone, StandsOrNearly, StandsForOne, StandsOrOther}
+use Rattle.vault_types.specs.Bytes.{IsSound}
+use Rattle.script_laws.specs.Complete.{IsWell, IsComplete}
+use Rattle.script_laws.proofs.Staying.{AreWell, well_alone, well_behind}
+use Rattle.script_laws.specs.Outputs.{AreApartLines, OnFiles, KeepsOthers, AreOutputs}
+use Rattle.script_laws.specs.Script.{MeansScript, RunsLines}
+use Rattle.script_laws.specs.View.{IsKept}
+use Rattle.script_laws.specs.Steps.{Moment, StepsLine, ReachesFrom, Chain}
+use Rattle.script_laws.proofs.Rising.{rise_more}
+use Rattle.script_laws.proofs.Names.{files_then, others_then}
+use Rattle.script_laws.proofs.Near.{nearly}
+use Rattle.script_laws.proofs.Counting.{few_counted}
+use Rattle.script_laws.proofs.Following.{LeftBy, stand_more, Follows, follows, table, keeps_last, loads, strays, crashes, outputs, well}
+
+-- behind lines that began with no change, those that may be left
+left_alone : (sources : Sources) (S : State) (lines : List Line) (answers : List Answer) (T : State) → LeftBy sources S None lines answers T → MayBeDone sources S lines answers T
+left_alone sources S lines answers T (inl none) = absurd none.0
+left_alone sources S lines answers T (inr done) = done
+
+reached_alone : (sources : Sources) (S : State) (lines : List Line) (answers : List Answer) (T : State) → ReachesFrom sources S None lines answers T → Reaches sources S lines answers T
+reached_alone sources S lines answers T (inl none) = absurd none
+reached_alone sources S lines answers T (inr done) = done
+
+stands_at_end : (S : State) (May : State → Type 0) (next : Option Change) → IsValid S → IfSome next (λ h. (s : ℕ) × IsChange S s h) → ((T : State) → IsSomeAnd next (λ h. h.state ≡ T) → May T)
+    → (o : Option Blobs) → IsSomeAnd o (IsNear S next) → IsSomeAnd o (StandsOrNearly S May)
+stands_at_end S May next valid change may None h = h
+stands_at_end S May next valid change may (Some m) (inl stands) = inl stands
+stands_at_end S May None valid change may (Some m) (inr none) = absurd none
+stands_at_end S May (Some h) valid change may (Some m) (inr has) = inr (h.state, may h.state refl, has.other, nearly S change.0 h valid change.1 m has)
+
+module _ {K : Type 0} (shelf : K → ShelfTold) (keeps : K → State → Option Change → Type 0) (keeps_is : (k : K) (S : State) (other : Option Change) → keeps k S other → IsKept (shelf k) S other) (limits : Limits) where
+  kinds : (old new : Moment K) (lines : List Line) (answers : List Answer) → Chain (StepsLine shelf keeps limits) old lines answers new → AreFitting limits lines answers
+  kinds old new [] [] chain = tt
+  kinds old new [] (answer ∷ answers) chain = absurd chain
+  kinds old new (line ∷ lines) [] chain = absurd chain
+  kinds old new (line ∷ lines) (answer ∷ answers) chain = (chain.1.kind, kinds chain.0 new lines answers chain.2)
+
+  abbrev counts : Moment K → Counts
+  counts m = counts_over (shelf m.keeper) m.places
+
+  causes : (old new : Moment K) (lines : List Line) (answers : List Answer) → Chain (StepsLine shelf keeps limits) old lines answers new → CausesRise (counts old) (counts new) answers
+  causes old new [] [] chain = subst (λ (m : Moment K). CausesRise (counts old) (counts m) []) (sym chain) (record { store = omega arith; place = omega arith; read = omega arith; write = omega arith })
+  causes old new [] (answer ∷ answers) chain = absurd chain
+  causes old new (line ∷ lines) [] chain = absurd chain
+  causes old new (line ∷ lines) (answer ∷ answers) chain =
+      let first = chain.1.causes in
+      let rest = causes chain.0 new lines answers chain.2 in
+      record {
+        store = rise_more store_number (counts old).store (counts chain.0).store (counts new).store answer answers first.store rest.store;
+        place = rise_more place_number (counts old).place (counts chain.0).place (counts new).place answer answers first.place rest.place;
+        read = rise_more read_number (counts old).read (counts chain.0).read (counts new).read answer answers first.read rest.read;
+        write = rise_more write_number (counts old).write (counts chain.0).write (counts new).write answer answers first.write rest.write;
+      }
+
+  others : (old new : Moment K) (lines : List Line) (answers : List Answer) → Chain (StepsLine shelf keeps limits) old lines answers new → OnFiles old.places.files new.places.files (KeepsOthers lines)
+  others old new [] [] chain = subst (λ (m : Moment K). OnFiles old.places.files m.places.files (KeepsOthers [])) (sym chain) (same old.places.files)
+    where
+      same : (o : Option Files) → OnFiles o o (KeepsOthers [])
+      same None = tt
+      same (Some x) = λ name none. refl
+  others old new [] (answer ∷ answers) chain = absurd chain
+  others old new (line ∷ lines) [] chain = absurd chain
+  others old new (line ∷ lines) (answer ∷ answers) chain = files_then old.places.files chain.0.places.files new.places.files (KeepsOthers (line ∷ [])) (KeepsOthers lines) (KeepsOthers (line ∷ lines))
+      (λ x y z told first rest. others_then line lines x y z first rest) chain.1.others (others chain.0 new lines answers chain.2)
+
+  pub means : (sources : Sources) (S : State) (old new : Moment K) (lines : List Line) (answers : List Answer) → keeps old.keeper S None → Follows shelf keeps limits sources S None old lines answers new
+      → MeansScript limits sources S lines answers (shelf old.keeper) (shelf new.keeper)
+  means sources S old new lines answers keep chain =
+      let last = keeps_last shelf keeps limits sources S None old new lines answers keep chain in
+      let is = keeps_is new.keeper (state_after sources S lines answers) last.0 last.1 in
+      record {
+        table = table shelf keeps limits sources S None old new lines answers chain;
+        shelf = record {
+          blobs = stands_at_end (state_after sources S lines answers) (MayBeDone sources S lines answers) last.0 is.valid is.change (λ T h. left_alone sources S lines answers T (last.2 T h)) (shelf new.keeper).blobs is.blobs;
+          valid = is.valid;
+          loads = loads shelf keeps limits sources S None old new lines answers chain;
+        };
+        strays = strays shelf keeps limits sources S None old new lines answers chain;
+        crash = λ images.
+            let both = crashes shelf keeps limits sources S None old new lines answers chain (more_now (λ m. Stands m S) (IsNear S None) (λ m stands. inl stands) (shelf old.keeper).history images) in
+            record {
+              any_moment = more (StandsForOne (ReachesFrom sources S None lines answers)) (StandsForOne (Reaches sources S lines answers)) (stand_more _ _ (reached_alone sources S lines answers)) _ _ both.0;
+              at_the_end = more_now (StandsOrOther (state_after sources S lines answers) (LeftBy sources S None lines answers)) (StandsOrOther (state_after sources S lines answers) (MayBeDone sources S lines answers))
+                  (λ m e. ⊎_elim (λ stands. inl stands) (λ left. inr (left.0, left_alone sources S lines answers left.0 left.1, left.2)) e) _ both.1;
+            };
+      }
+
+  all_well : (sources : Sources) (S : State) (other : Option Change) (old new : Moment K) (lines : List Line) (answers : List Answer) → Follows shelf keeps limits sources S other old lines answers new → IsWell limits sources S lines
+      → AreWell limits sources S lines answers × IsSound (state_after sources S lines answers)
+  all_well sources S other old new [] [] chain w = (tt, w.sound)
+  all_well sources S other old new [] (answer ∷ answers) chain w = absurd chain
+  all_well sources S other old new (line ∷ lines) [] chain w = absurd chain
+  all_well sources S other old new (line ∷ lines) (answer ∷ answers) chain w =
+      let kept = keeps_is chain.0.keeper (after sources S line answer) chain.1 chain.2 in
+      let rest = all_well sources (after sources S line answer) chain.1 chain.0 new lines answers chain.6 (well_behind limits sources S lines line answer kept.valid chain.3.means.done w) in
+      ((well_alone limits sources S lines line w, rest.0), rest.1)
+
+  completes : (sources : Sources) (S : State) (old new : Moment K) (lines : List Line) (answers : List Answer) → Chain (StepsLine shelf keeps limits) old lines answers new → Follows shelf keeps limits sources S None old lines answers new
+      → IsWell limits sources S lines → IsComplete limits sources S lines answers (counts old) (counts new)
+  completes sources S old new lines answers chain through w =
+      let all = all_well sources S None old new lines answers through w in
+      record {
+        each = well shelf keeps limits sources S None old new lines answers through all.0;
+        sound = all.1;
+        few = few_counted (counts old) (counts new) answers (causes old new lines answers chain);
+      }
+
+  only_outputs : (sources : Sources) (S : State) (lines : List Line) (answers : List Answer) (a b : Option Files) → OnFiles a b (λ x z. AreOutputs sources S lines answers x z × KeepsOthers lines x z) → OnFiles a b (AreOutputs sources S lines answers)
+  only_outputs sources S lines answers None None h = tt
+  only_outputs sources S lines answers None (Some z) h = h
+  only_outputs sources S lines answers (Some x) None h = h
+  only_outputs sources S lines answers (Some x) (Some z) h = h.0
+
+  pub runs_of_chain : (old new : Moment K) (lines : List Line) (answers : List Answer) → AreApartLines lines → Chain (StepsLine shelf keeps limits) old lines answers new
+      → RunsLines (λ S. keeps old.keeper S None) limits lines answers (shelf old.keeper) (shelf new.keeper) old.places new.places
+  runs_of_chain old new lines answers apart chain = record {
+    kinds = kinds old new lines answers chain;
+    causes = causes old new lines answers chain;
+    others = others old new lines answers chain;
+    means = λ S sources keep fed. means sources S old new lines answers keep (follows shelf keeps limits sources S None old new [] [] lines answers keep fed apart chain);
+    outputs = λ S sources keep fed. only_outputs sources S lines answers old.places.files new.places.files
+        (outputs shelf keeps limits sources S None old new [] [] lines answers apart (follows shelf keeps limits sources S None old new [] [] lines answers keep fed apart chain));
+    complete = λ S sources keep fed all. completes sources S old new lines answers chain (follows shelf keeps limits sources S None old new [] [] lines answers keep fed apart chain) all;
+  }

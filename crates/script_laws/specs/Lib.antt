@@ -1,0 +1,10 @@
+pub mod Causes
+pub mod Table
+pub mod Leaves
+pub mod Outputs
+pub mod Strays
+pub mod Complete
+pub mod Script
+pub mod View
+pub mod Steps
+pub mod Calls

@@ -1,0 +1,91 @@
+-- One line of a run: what it takes the shelf and the keeper's state to.
+use Rattle.std.specs.Prelude.{◌≡◌, ◌⊎◌, ◌≤◌, ◌<◌, ◌-◌, ◌*◌, ◌^◌, ℕ, false, IsTrue, List, [], ◌∷◌, length, Contains, Option, None, IsSomeAnd, IfSome, Result, Ok, Err}
+use Rattle.vault_types.specs.declared.Limits.{Limits}
+use Rattle.vault_types.specs.declared.Name.{Name}
+use Rattle.vault_types.specs.declared.Fault.{Fault}
+use Rattle.vault_types.specs.declared.Fault.TheVariants as fault
+use Rattle.vault_types.specs.declared.Answer.{Answer}
+use Rattle.vault_types.specs.declared.Answer.TheVariants.{Refused}
+use Rattle.vault_types.specs.declared.Line.{Line}
+use Rattle.vault_types.specs.State.{State}
+use Rattle.vault_types.specs.Events.{Change, IsNear}
+use Rattle.vault_types.specs.Script.{Sources, after, after_line, is_refused, is_store_fault, changes, Reaches}
+use Rattle.vault_traits.specs.Counts.{counted_up}
+use Rattle.vault_traits.specs.Crash.{History, LeavesNowIfTold, LeavesOnlyIfTold}
+use Rattle.vault_traits.specs.Told.{ShelfTold, PlacesTold}
+use Rattle.script_laws.specs.Causes.{CausesRise, fits, counts_over}
+use Rattle.script_laws.specs.Table.{MeansLine}
+use Rattle.script_laws.specs.Leaves.{Gets, StandsForOne}
+use Rattle.script_laws.specs.Complete.{IsWell, IsWellAnswered}
+use Rattle.script_laws.specs.Outputs.{OnFiles, KeepsOthers, IsOutputOf, AreFedBy}
+use Rattle.script_laws.specs.Strays.{IsStray, MayStayBehind}
+
+abbrev pub answer_of : Result Answer Fault → Answer
+answer_of (Ok answer) = answer
+answer_of (Err f) = Refused f
+
+-- the fault with the number that the places give it
+abbrev pub read_numbered : ℕ → Fault → Fault
+read_numbered n (fault.ReadFault m) = fault.ReadFault n
+read_numbered n other = other
+
+abbrev pub write_numbered : ℕ → Fault → Fault
+write_numbered n (fault.WriteFault m) = fault.WriteFault n
+write_numbered n other = other
+
+-- the change that a failed write may have made, behind a line: none where blobs were mended or nothing failed; the one
+-- from before where the line was refused or changes nothing; and that of the line done where it changes the state and
+-- answered a store fault
+abbrev pub IsNextOther : Sources → State → Option Change → Line → Answer → Option Change → Type 0
+IsNextOther sources S other line answer next =
+    (next ≡ None)
+    ⊎ (((IsTrue (is_refused answer) ⊎ (changes line ≡ false)) × (next ≡ other)))
+    ⊎ (IsTrue (is_store_fault answer) × IsTrue (changes line) × IsSomeAnd next (λ h. h.state ≡ after_line sources S line))
+
+-- the states that a crash may find where there was this change before the lines
+abbrev pub ReachesFrom : Sources → State → Option Change → List Line → List Answer → State → Type 0
+ReachesFrom sources S other lines answers T = IsSomeAnd other (λ h. h.state ≡ T) ⊎ Reaches sources S lines answers T
+
+-- behind the line a stray is one that may stay, or one of two for each unit that the count of faults rose by
+pub record StraysStep (limits : Limits) (sources : Sources) (S : State) (line : Line) (answer : Answer) (old new : ShelfTold) : Type 0 where
+  pub later : old.faults ≤ new.faults
+  pub others : List Name
+  pub few : new.faults < 2 ^ 64 - 1 → length others ≤ 2 * (new.faults - old.faults)
+  pub each : (n : Name) → IfSome new.blobs (λ m. IsStray (after sources S line answer) m n)
+      → MayStayBehind limits S line answer (λ k. IfSome old.blobs (λ m. IsStray S m k)) n ⊎ Contains others n
+
+-- a crash at any moment of the line leaves a state that it reaches, and one behind it the state then or with the change
+pub record BearsStep (sources : Sources) (S : State) (other : Option Change) (line : Line) (answer : Answer) (next : Option Change) (old new : Option History) : Type 0 where
+  pub any_moment : LeavesOnlyIfTold old new (StandsForOne (ReachesFrom sources S other (line ∷ []) (answer ∷ [])))
+  pub behind : LeavesNowIfTold new (IsNear (after sources S line answer) next)
+
+-- what a line does in the state S, where a failed write may have made the change `other`
+pub record StepsOn (limits : Limits) (sources : Sources) (S : State) (other : Option Change) (line : Line) (answer : Answer) (next : Option Change) (old new : ShelfTold) : Type 0 where
+  pub means : MeansLine limits sources S line answer
+  pub complete : IsWell limits sources S (line ∷ []) → IsWellAnswered limits sources S line answer
+  pub next_other : IsNextOther sources S other line answer next
+  pub gets : (n : ℕ) × (new.gets ≡ counted_up old.gets n) × Gets S line answer n
+  pub strays : StraysStep limits sources S line answer old new
+  pub crash : LeavesNowIfTold old.history (IsNear S other) → BearsStep sources S other line answer next old.history new.history
+
+-- a keeper and the places, between two lines
+pub record Moment (K : Type 0) : Type 0 where
+  pub keeper : K
+  pub places : PlacesTold
+
+-- a line: one answer of its kind, each refusal with its cause; and in each state that the keeper keeps, what it means there
+pub record StepsLine {K : Type 0} (shelf : K → ShelfTold) (keeps : K → State → Option Change → Type 0) (limits : Limits) (old : Moment K) (line : Line) (answer : Answer) (new : Moment K) : Type 0 where
+  pub kind : IsTrue (fits limits line answer)
+  pub causes : CausesRise (counts_over (shelf old.keeper) old.places) (counts_over (shelf new.keeper) new.places) (answer ∷ [])
+  pub others : OnFiles old.places.files new.places.files (KeepsOthers (line ∷ []))
+  pub means : (S : State) (other : Option Change) (sources : Sources) → keeps old.keeper S other → AreFedBy old.places.files sources (line ∷ [])
+      → (next : Option Change) × keeps new.keeper (after sources S line answer) next × StepsOn limits sources S other line answer next (shelf old.keeper) (shelf new.keeper)
+  pub output : (S : State) (other : Option Change) (sources : Sources) → keeps old.keeper S other → AreFedBy old.places.files sources (line ∷ [])
+      → OnFiles old.places.files new.places.files (IsOutputOf S line answer)
+
+-- the lines one after another, from one moment to another
+abbrev pub Chain : {M : Type 0} → (M → Line → Answer → M → Type 0) → M → List Line → List Answer → M → Type 0
+Chain Step old [] [] new = new ≡ old
+Chain Step old [] (answer ∷ answers) new = ⊥
+Chain Step old (line ∷ lines) [] new = ⊥
+Chain {M} Step old (line ∷ lines) (answer ∷ answers) new = (mid : M) × Step old line answer mid × Chain Step mid lines answers new

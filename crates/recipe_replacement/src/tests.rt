@@ -1,8 +1,8 @@
 // Over a shelf that has nothing, and notes what it is asked.
 use super::*;
+use recipe_store::decode_recipe;
 use std::test::*;
 use vault_traits::{Failed, Refused};
-use recipe_store::decode_recipe;
 use vault_types::{Kind, Name, Set};
 
 // The recipe in format 2 of the version 1 of set 2 that has no rows.

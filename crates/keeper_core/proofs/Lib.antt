@@ -5,3 +5,4 @@ pub mod Listing
 pub mod Pinnings
 pub mod Naming
 pub mod Replacings
+pub mod Refusing

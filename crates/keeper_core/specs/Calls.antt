@@ -23,9 +23,10 @@ use Rattle.recipe_store.specs.Damages.{IsRecipeDamage}
 use Rattle.vault_types.specs.Blobs.{recipe_bytes_1}
 use Rattle.vault_types.specs.State.{State, KeptVersion, latest_of, next_of, length_of, version_of, recipe_of}
 use Rattle.vault_types.specs.Backup.{inherited_ids}
-use Rattle.vault_types.specs.Events.{Core, Change, Job, Pin, after_refused}
+use Rattle.vault_types.specs.Events.{Core, Change, Job, Pin, IsNear, after_refused}
 use Rattle.fp_index.specs.Index.{IsIndexOf}
 use Rattle.vault_traits.specs.Counts.{Rose}
+use Rattle.vault_traits.specs.Crash.{LeavesNowIfTold, LeavesOnlyIfTold}
 use Rattle.keeper_catalog.specs.View.{View, Keeps}
 use Rattle.row_spots.specs.declared.Unplaced.{Unplaced}
 use Rattle.row_spots.specs.declared.Unplaced.TheVariants as unplaced
@@ -40,6 +41,10 @@ pub record IsBegun (S : State) (s : ℕ) (b : Begun) : Type 0 where
   pub sparse : b.sparse.items ≡ inherited_ids S s
   pub index : IsIndexOf b.index (map (λ c. c.table) S.containers)
 
+-- the shelf failed
+abbrev pub IsShelfFault : Fault → Type 0
+IsShelfFault f = (n : ℕ) × (f ≡ fault.StoreFault n)
+
 -- a mending is due for the set where the shelf failed
 abbrev pub due_after : Fault → ℕ → Pending → Pending
 due_after (fault.StoreFault n) s waits = pending.FailedFor s
@@ -49,9 +54,20 @@ due_after other s waits = waits
 abbrev pub IsDue : Fault → Option JobInfo → Pending → Pending → Type 0
 IsDue f job before now = IfSome job (λ j. now ≡ due_after f j.set before)
 
--- after a refusal the state stays, a change may be half done, and the job is as given
-abbrev pub IsHalf : View → Change → Option Job → Core → Type 0
-IsHalf v h job K = (other : Option Change) × Keeps v (after_refused other job v.memo.strays v.pending K) × ((other ≡ None) ⊎ (other ≡ Some h))
+-- after a refusal by the fault the state stays, and the job is as given; where the shelf failed, a change may be half
+-- done. A crash at any moment of the call leaves the state, with what was half done before or is half done now; one
+-- behind it only what is half done now
+pub record IsHalf (u v : View) (h : Change) (job : Option Job) (f : Fault) (K : Core) : Type 0 where
+  pub other : Option Change
+  pub keeps : Keeps v (after_refused other job v.memo.strays v.pending K)
+  pub half : (other ≡ None) ⊎ ((other ≡ Some h) × IsShelfFault f)
+  pub any_moment : LeavesNowIfTold u.told.history (IsNear K.state K.other) → LeavesOnlyIfTold u.told.history v.told.history (λ c. IsNear K.state K.other c ⊎ IsNear K.state other c)
+  pub behind : LeavesNowIfTold u.told.history (IsNear K.state K.other) → LeavesNowIfTold v.told.history (IsNear K.state other)
+
+-- a refusal leaves the core as it was, and a crash at any moment of the call what it could leave before
+pub record IsStill (u v : View) (K : Core) : Type 0 where
+  pub keeps : Keeps v K
+  pub any_moment : LeavesNowIfTold u.told.history (IsNear K.state K.other) → LeavesOnlyIfTold u.told.history v.told.history (IsNear K.state K.other)
 
 -- why a deletion was refused: its version is the latest of its set or above it, or the shelf failed in it
 abbrev pub IsDeletionFault : ℕ → ℕ → Type 0 → Fault → Type 0

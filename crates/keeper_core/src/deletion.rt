@@ -12,7 +12,7 @@ ghost use Rattle.deletion_laws.specs.Deleting.{IsDeleting};
 ghost use Rattle.deletion_laws.specs.Releasing.{IsReleased};
 ghost use Rattle.keeper_parts.specs.Parts.{HeldIfTold};
 ghost use Rattle.keeper_catalog.specs.View.{Keeps};
-ghost use Rattle.keeper_core.specs.Calls.{IsHalf, IsDeletionFault};
+ghost use Rattle.keeper_core.specs.Calls.{IsHalf, IsStill, IsDeletionFault};
 
 use crate::keeper::{Keeper, Stand};
 use keeper_jobs::mend_for;
@@ -30,7 +30,8 @@ impl<S: Shelf> Keeper<S> {
     pub fn delete_through(&mut self, set: Set, through: Version) -> Result<Answer, Fault>
         requires { self.old.job ≡ None }
         ensures ok { IfOk result (λ answer. (K : Core) → Keeps self.old K → (through < latest_of K.state set) × (answer ≡ removed K.state set through) × Keeps self.new (after_delete set through self.new.memo.strays K)) }
-        ensures err { OnErr result ((K : Core) → Keeps self.old K → Keeps self.new K ⊎ IsHalf self.new (delete_change set through K.state) None K) }
+        ensures err { IfErr result (λ f. (K : Core) → Keeps self.old K → IsStill self.old self.new K ⊎ IsHalf self.old self.new (delete_change set through K.state) None f K) }
+        ensures still { (K : Core) → Keeps self.old K → latest_of K.state set ≤ through → self.new ≡ self.old }
         ensures last { (K : Core) → Keeps self.old K → latest_of K.state set ≤ through → result ≡ Err (fault.LastVersion set through (latest_of K.state set)) }
         ensures cause { IfErr result (λ f. (K : Core) → Keeps self.old K → IsDeletionFault self.old.told.faults self.new.told.faults (latest_of K.state set ≤ through) f) }
         ensures later { self.old.told.faults ≤ self.new.told.faults }

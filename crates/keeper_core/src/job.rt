@@ -109,7 +109,7 @@ impl<S: Shelf> Keeper<S> {
         requires lent { index ≡ self.old.index }
         requires can { (K : Core) × (j : Job) × Keeps self.old K × CanCommit K j recipe }
         ensures ok { OnOk result ((K : Core) (j : Job) → Keeps self.old K → CanCommit K j recipe → Keeps self.new (after_commit (version_by K j recipe) j self.new.memo.strays K)) }
-        ensures err { OnErr result ((K : Core) (j : Job) → Keeps self.old K → CanCommit K j recipe → IsHalf self.new (commit_change (version_by K j recipe) j recipe K.state) None K) }
+        ensures err { IfErr result (λ f. (K : Core) (j : Job) → Keeps self.old K → CanCommit K j recipe → IsHalf self.old self.new (commit_change (version_by K j recipe) j recipe K.state) None f K) }
 
         // A crash at any moment leaves the state from before or the one after; at `Ok` only the one after.
         ensures any_moment { (K : Core) (j : Job) → Keeps self.old K → CanCommit K j recipe → LeavesNowIfTold self.old.told.history (IsNear K.state None)

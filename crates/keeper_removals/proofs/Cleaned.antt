@@ -1,5 +1,5 @@
 -- What the shelf holds, and what a crash leaves, behind a deletion and the removal of what goes with it.
-use Rattle.std.proofs.Common.{◌≡◌, inr, ℕ, ◌<◌, ◌≤◌, ◌+◌, map, length, Bool, false, cond, not, List, [], ◌∷◌, drop, Option, Some, None, refl, sym, ◌∙◌, ap, subst, arith}
+use Rattle.std.proofs.Common.{◌≡◌, inr, ℕ, ◌<◌, ◌≤◌, ◌+◌, map, length, Bool, false, cond, not, List, [], ◌∷◌, drop, Option, Some, None, max, refl, sym, ◌∙◌, ap, subst, arith}
 use Rattle.std.specs.Prelude.{Contains, IsSome, OnErr, Result, Ok, Err, slice_index_or, filter}
 use Rattle.vault_types.specs.declared.Fp.{Fp}
 use Rattle.vault_types.specs.declared.Name.{Name}
@@ -9,13 +9,13 @@ use Rattle.vault_types.specs.State.{State, named, floor_of}
 use Rattle.vault_types.specs.Blobs.{floor_bytes}
 use Rattle.vault_types.specs.Delete.{delete, reclaimed_ids}
 use Rattle.vault_types.specs.Shelf.{Blobs, floor_name}
-use Rattle.vault_types.specs.Events.{Core, IsNear, after_delete}
+use Rattle.vault_types.specs.Events.{Core, IsNear, after_delete, delete_change}
 use Rattle.vault_traits.specs.Crash.{History, LeavesNowIfTold, LeavesOnlyIfTold}
 use Rattle.vault_traits.specs.Shelf.{blobs_with}
 use Rattle.vault_traits.proofs.Moments.{then, more}
 use Rattle.fp_index.specs.Index.{IsIndexOf}
 use Rattle.restore_pins.specs.Pins.{Listed}
-use Rattle.keeper_parts.specs.Parts.{HeldIfTold}
+use Rattle.keeper_parts.specs.Parts.{HeldIfTold, change}
 use Rattle.keeper_catalog.specs.declared.SetInfo.{SetInfo}
 use Rattle.keeper_catalog.specs.Catalog.{Memo, IsMemoOf}
 use Rattle.deletion_laws.specs.Deleting.{IsDeleting, AreStraysAfter}
@@ -85,3 +85,8 @@ module _ (m : Memo) (index : List (Fp × List ℕ)) (pins : List Listed) (K : Co
 
   pub then_deleted : (h0 h1 h2 : Option History) → LeavesOnlyIfTold h0 h1 (IsDeleting K.state s n) → LeavesOnlyIfTold h1 h2 (IsNear (delete K.state s n) None) → LeavesOnlyIfTold h0 h2 (IsDeleting K.state s n)
   then_deleted h0 h1 h2 first second = then (IsDeleting K.state s n) h0 h1 h2 first (only_deleted h1 h2 second)
+
+-- near the state with the floor half written, whichever way the floor is written down
+pub floor_half : (K : Core) (s n floor : ℕ) → floor ≡ max (floor_of K.state s) (n + 1) → (past now : Option History) → LeavesOnlyIfTold past now (IsNear K.state (Some (change (floor_name s) (floor_bytes s floor) (delete K.state s n))))
+    → LeavesOnlyIfTold past now (IsNear K.state (Some (delete_change s n K.state)))
+floor_half K s n floor is past now leaves = subst (λ (f : ℕ). LeavesOnlyIfTold past now (IsNear K.state (Some (change (floor_name s) (floor_bytes s f) (delete K.state s n))))) is leaves

@@ -180,7 +180,10 @@ pub fn delete_versions<S: Shelf>(
     ensures half { OnErr result ((K : Core) → Removing (memo_of catalog.old) index.old pins.now K set through → HeldIfTold (S.told shelf.old).blobs K
         → HeldIfTold (S.told shelf.new).blobs (after_refused (Some (delete_change set through K.state)) None K.strays (pending.FailedFor set) K)) }
 
-    // A crash at any moment leaves the state from before or the one after; at `Ok` only the one after.
+    // A crash at any moment leaves the state from before or the one after: at `Ok` only the one after, and in a refused
+    // deletion only the one from before or the floor that was tried.
+    ensures refused_moment { OnErr result ((K : Core) → Removing (memo_of catalog.old) index.old pins.now K set through → LeavesNowIfTold (S.told shelf.old).history (IsNear K.state None)
+        → LeavesOnlyIfTold (S.told shelf.old).history (S.told shelf.new).history (IsNear K.state (Some (delete_change set through K.state)))) }
     ensures any_moment { (K : Core) → Removing (memo_of catalog.old) index.old pins.now K set through → HeldIfTold (S.told shelf.old).blobs K → LeavesNowIfTold (S.told shelf.old).history (IsNear K.state None)
         → LeavesOnlyIfTold (S.told shelf.old).history (S.told shelf.new).history (IsDeleting K.state set through) }
     ensures acknowledged { OnOk result ((K : Core) → Removing (memo_of catalog.old) index.old pins.now K set through → HeldIfTold (S.told shelf.old).blobs K → LeavesNowIfTold (S.told shelf.old).history (IsNear K.state None)

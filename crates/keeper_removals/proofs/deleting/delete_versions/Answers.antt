@@ -6,10 +6,11 @@ use Rattle.vault_types.specs.Events.{Core, IsNear, after_delete, after_refused, 
 use Rattle.keeper_parts.specs.Parts.{HeldIfTold}
 use Rattle.keeper_catalog.specs.Catalog.{memo_of}
 use Rattle.keeper_removals.specs.Removals.{Removing}
+use Rattle.vault_traits.specs.Crash.{LeavesNowIfTold, LeavesOnlyIfTold}
 use Rattle.vault_traits.proofs.Moments.{ends}
 use Rattle.deletion_laws.proofs.Steps.{told_half, near_deleting, changes, told_stands}
 use Rattle.keeper_removals.proofs.Deleted.{floor_is}
-use Rattle.keeper_removals.proofs.Cleaned.{always, rises, stays_even, even_removed, even_index, even_memo, even_held, even_idle, even_now, only_deleted, risen_held, risen_idle, then_deleted}
+use Rattle.keeper_removals.proofs.Cleaned.{always, rises, stays_even, even_removed, even_index, even_memo, even_held, even_idle, even_now, only_deleted, risen_held, risen_idle, then_deleted, floor_half}
 use Rattle.keeper_removals.proofs.deleting.delete_versions.Goals as goal
 
 pub returns-then-floor-index-clause-removed : goal.returns-then-floor-index-clause-removed
@@ -45,6 +46,16 @@ returns-in_err-raise_floor-clause-half g c =
     let up = rises _ _ _ K _ _ r c.index.result.now (c.args.through + 1) c.index.ensures refl c.if-floor-index.false in
     told_half K c.args.set c.args.through (c.args.through + 1) r.core.state r.in_range r.low (floor_is _ _ _ K _ _ r _ up) r.no_job r.alone _ _ c.raise_floor.ensures.at_most held in
     always c.from_residual.result _ half
+
+pub returns-in_err-raise_floor-clause-refused_moment : goal.returns-in_err-raise_floor-clause-refused_moment
+returns-in_err-raise_floor-clause-refused_moment g c =
+    let leaves : (K : Core) → Removing (memo_of c.args.catalog.now) c.args.index.now c.args.pins.now K c.args.set c.args.through → LeavesNowIfTold (g.S.Shelf.told c.args.shelf.now).history (IsNear K.state None)
+    → LeavesOnlyIfTold (g.S.Shelf.told c.args.shelf.now).history (g.S.Shelf.told c.raise_floor.new.shelf).history (IsNear K.state (Some (delete_change c.args.set c.args.through K.state))) = λ K r here.
+    let up = rises _ _ _ K _ _ r c.index.result.now (c.args.through + 1) c.index.ensures refl c.if-floor-index.false in
+    let is = floor_is _ _ _ K _ _ r _ up in
+    floor_half K c.args.set c.args.through (c.args.through + 1) is _ _
+    (c.raise_floor.ensures.any_moment K.state (delete K.state c.args.set c.args.through) (changes K c.args.set c.args.through (c.args.through + 1) r.core.state r.in_range r.low is) here) in
+    always c.from_residual.result _ leaves
 
 pub returns-in_err-raise_floor-clause-any_moment : goal.returns-in_err-raise_floor-clause-any_moment
 returns-in_err-raise_floor-clause-any_moment g c K r held here =

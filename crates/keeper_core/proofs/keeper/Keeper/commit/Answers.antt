@@ -1,11 +1,13 @@
 use Rattle.std.proofs.Common.{inl, inr, Some, None, refl, sym, subst, ap, ◌∙◌}
 use Rattle.std.specs.Prelude.{Err}
-use Rattle.vault_types.specs.Events.{Core, Job, commit_change}
+use Rattle.vault_types.specs.Events.{Core, Job, IsNear, commit_change}
+use Rattle.vault_traits.specs.Crash.{LeavesNowIfTold, LeavesOnlyIfTold}
 use Rattle.vault_types.specs.declared.Pending.TheVariants.{FailedFor}
 use Rattle.keeper_catalog.specs.View.{View, Keeps}
 use Rattle.keeper_jobs.specs.Jobs.{version_by}
 use Rattle.keeper_core.specs.Stands.{job_of}
 use Rattle.keeper_core.proofs.Keeping.{commits_of, commit_done, commit_still, commit_halved}
+use Rattle.keeper_core.proofs.Refusing.{commit_untried, commit_tried}
 use Rattle.keeper_core.proofs.keeper.Keeper.commit.Goals as goal
 
 pub invariant_of-self : goal.invariant_of-self
@@ -42,7 +44,10 @@ returns-in-Err-Before-Memory-clause-err g c K j keeps fits =
     let k = subst (λ (v : View). Keeps v K) (sym c.self.view_is) keeps in
     let job = ap job_of c.in-Lent.is in
     let cm = commits_of _ K k c.in-Lent.job job j c.args.recipe fits c.args.index (c.requires.lent ∙ ap (λ (v : View). v.index) (sym c.self.view_is)) in
-    (None, commit_still _ K k c.in-Lent.job job j c.args.recipe fits _ _ _ c.self.inside.pending (inl refl) (λ w. c.in-Err-Before-Memory.ensures.still K j w cm) (c.in-Err-Before-Memory.ensures.same_index K j cm) (c.in-Err-Before-Memory.ensures.before c.in-Err-Before-Memory.field-0-0 (ap Err c.in-Err-Before-Memory.field-0-is) K j c.self.inside.pending cm k.held), inl refl)
+    commit_untried c.args.self.now _ K keeps c.in-Lent.job (sym (ap (λ (v : View). v.job) c.self.view_is) ∙ job) _ None _
+    (commit_still _ K k c.in-Lent.job job j c.args.recipe fits _ _ _ c.self.inside.pending (inl refl) (λ w. c.in-Err-Before-Memory.ensures.still K j w cm) (c.in-Err-Before-Memory.ensures.same_index K j cm) (c.in-Err-Before-Memory.ensures.before c.in-Err-Before-Memory.field-0-0 (ap Err c.in-Err-Before-Memory.field-0-is) K j c.self.inside.pending cm k.held))
+    (λ here. subst (λ (v : View). LeavesOnlyIfTold v.told.history (g.S.Shelf.told c.commit_recipe.new.shelf).history (IsNear K.state None)) c.self.view_is
+    (c.in-Err-Before-Memory.ensures.untried c.in-Err-Before-Memory.field-0-0 (ap Err c.in-Err-Before-Memory.field-0-is) K j cm (subst (λ (v : View). LeavesNowIfTold v.told.history (IsNear K.state None)) (sym c.self.view_is) here)))
 
 pub invariant_of-self-in-Err-Before-Failed : goal.invariant_of-self-in-Err-Before-Failed
 invariant_of-self-in-Err-Before-Failed g c =
@@ -60,7 +65,10 @@ returns-in-Err-Before-Failed-clause-err g c K j keeps fits =
     let k = subst (λ (v : View). Keeps v K) (sym c.self.view_is) keeps in
     let job = ap job_of c.in-Lent.is in
     let cm = commits_of _ K k c.in-Lent.job job j c.args.recipe fits c.args.index (c.requires.lent ∙ ap (λ (v : View). v.index) (sym c.self.view_is)) in
-    (None, commit_still _ K k c.in-Lent.job job j c.args.recipe fits _ _ _ (FailedFor c.in-Lent.job.set) (inr refl) (λ w. c.in-Err-Before-Failed.ensures.still K j w cm) (c.in-Err-Before-Failed.ensures.same_index K j cm) (c.in-Err-Before-Failed.ensures.before c.in-Err-Before-Failed.field-0-0 (ap Err c.in-Err-Before-Failed.field-0-is) K j (FailedFor c.in-Lent.job.set) cm k.held), inl refl)
+    commit_untried c.args.self.now _ K keeps c.in-Lent.job (sym (ap (λ (v : View). v.job) c.self.view_is) ∙ job) _ None _
+    (commit_still _ K k c.in-Lent.job job j c.args.recipe fits _ _ _ (FailedFor c.in-Lent.job.set) (inr refl) (λ w. c.in-Err-Before-Failed.ensures.still K j w cm) (c.in-Err-Before-Failed.ensures.same_index K j cm) (c.in-Err-Before-Failed.ensures.before c.in-Err-Before-Failed.field-0-0 (ap Err c.in-Err-Before-Failed.field-0-is) K j (FailedFor c.in-Lent.job.set) cm k.held))
+    (λ here. subst (λ (v : View). LeavesOnlyIfTold v.told.history (g.S.Shelf.told c.commit_recipe.new.shelf).history (IsNear K.state None)) c.self.view_is
+    (c.in-Err-Before-Failed.ensures.untried c.in-Err-Before-Failed.field-0-0 (ap Err c.in-Err-Before-Failed.field-0-is) K j cm (subst (λ (v : View). LeavesNowIfTold v.told.history (IsNear K.state None)) (sym c.self.view_is) here)))
 
 pub invariant_of-self-in-Err-Half : goal.invariant_of-self-in-Err-Half
 invariant_of-self-in-Err-Half g c =
@@ -78,4 +86,7 @@ returns-in-Err-Half-clause-err g c K j keeps fits =
     let k = subst (λ (v : View). Keeps v K) (sym c.self.view_is) keeps in
     let job = ap job_of c.in-Lent.is in
     let cm = commits_of _ K k c.in-Lent.job job j c.args.recipe fits c.args.index (c.requires.lent ∙ ap (λ (v : View). v.index) (sym c.self.view_is)) in
-    (Some (commit_change (version_by K j c.args.recipe) j c.args.recipe K.state), commit_halved _ K k c.in-Lent.job job j c.args.recipe fits _ _ _ (λ w. c.in-Err-Half.ensures.still K j w cm) (c.in-Err-Half.ensures.same_index K j cm) (c.in-Err-Half.ensures.half (ap Err c.in-Err-Half.field-0-is) K j cm k.held), inr refl)
+    commit_tried c.args.self.now _ K keeps c.in-Lent.job (sym (ap (λ (v : View). v.job) c.self.view_is) ∙ job) _ None _ (_, refl)
+    (commit_halved _ K k c.in-Lent.job job j c.args.recipe fits _ _ _ (λ w. c.in-Err-Half.ensures.still K j w cm) (c.in-Err-Half.ensures.same_index K j cm) (c.in-Err-Half.ensures.half (ap Err c.in-Err-Half.field-0-is) K j cm k.held))
+    (λ here. subst (λ (v : View). LeavesOnlyIfTold v.told.history (g.S.Shelf.told c.commit_recipe.new.shelf).history (IsNear K.state (Some (commit_change (version_by K j c.args.recipe) j c.args.recipe K.state)))) c.self.view_is
+    (c.in-Err-Half.ensures.any_moment K j cm k.held (subst (λ (v : View). LeavesNowIfTold v.told.history (IsNear K.state None)) (sym c.self.view_is) here)))

@@ -1,4 +1,4 @@
-use Rattle.std.proofs.Common.{◌⊎◌, inl, inr, ◌<◌, List, Some, refl, sym, subst, ap, ◌∙◌, arith, length}
+use Rattle.std.proofs.Common.{◌⊎◌, inl, inr, ◌<◌, List, refl, sym, subst, ap, ◌∙◌, arith, length}
 use Rattle.vault_types.specs.declared.Pending.TheVariants.{Not}
 use Rattle.vault_types.specs.State.{latest_of}
 use Rattle.vault_types.specs.declared.Answer.TheVariants.{Removed}
@@ -11,13 +11,24 @@ use Rattle.keeper_catalog.specs.declared.SetInfo.{SetInfo}
 use Rattle.keeper_catalog.specs.View.{View, Keeps}
 use Rattle.keeper_jobs.specs.Jobs.{Sees}
 use Rattle.keeper_jobs.proofs.Seeing.{alone, not_failed}
-use Rattle.keeper_core.specs.Stands.{index_of}
+use Rattle.keeper_catalog.specs.Catalog.{memo_of}
+use Rattle.keeper_core.specs.Stands.{index_of, job_of}
+use Rattle.keeper_core.specs.Calls.{IsStill}
 use Rattle.keeper_core.proofs.Keeping.{sees_of, mended, sets_count}
 use Rattle.keeper_core.proofs.Removing.{mended_now, removing_of, deleted, floor_after, halved}
+use Rattle.keeper_core.proofs.Refusing.{delete_tried, mending_refused, on_if, shelf_fault}
 use Rattle.keeper_core.proofs.keeper.Keeper.delete_through.Goals as goal
 
 pub returns-then-through-latest-clause-any_moment : goal.returns-then-through-latest-clause-any_moment
 returns-then-through-latest-clause-any_moment g c K keeps here = more (IsNear K.state K.other) _ (λ b near. inl near) _ _ (stays (IsNear K.state K.other) _ _ refl here)
+
+pub returns-in_err-mend_for-clause-err : goal.returns-in_err-mend_for-clause-err
+returns-in_err-mend_for-clause-err g c = on_if c.from_residual.result _
+    (λ f K keeps.
+    let k = subst (λ (v : View). Keeps v K) (sym c.self.view_is) keeps in
+    let sees = subst (λ (l : List SetInfo). Sees l c.self.inside.pending K) (sym c.deref.ensures.value) (sees_of _ K k) in
+    inl (subst (λ (v : View). IsStill v (record { told = g.S.Shelf.told c.mend_for.new.shelf; memo = memo_of c.self.inside.catalog; index = index_of c.self.inside.stand; pins = c.self.inside.pins; job = job_of c.self.inside.stand; pending = c.mend_for.new.pending }) K) c.self.view_is
+    (mending_refused _ K k (g.S.Shelf.told c.mend_for.new.shelf) c.mend_for.new.pending c.in_err-mend_for.ensures.waits (c.mend_for.ensures.held K sees k.held) (c.mend_for.ensures.any_moment K sees))))
 
 pub returns-in_err-mend_for-clause-any_moment : goal.returns-in_err-mend_for-clause-any_moment
 returns-in_err-mend_for-clause-any_moment g c K keeps here =
@@ -123,7 +134,12 @@ returns-in-Err-clause-err g c K keeps =
     let late = c.latest-latest.ensures K (subst (λ (v : View). Keeps v K) c.self.view_is k) in
     let low : c.args.through < latest_of K.state c.args.set = omega (arith, late, c.if-through-latest.false) in
     let r = removing_of _ (after_mend K.strays K) k2 none c.args.set c.args.through below low c.in-Here.index (ap index_of (sym c.in-Here.is)) refl in
-    inr (Some (delete_change c.args.set c.args.through K.state), halved _ (after_mend K.strays K) k2 none c.args.set c.args.through below low (g.S.Shelf.told c.delete_versions.new.shelf) _ _ _ refl c.in-Err.ensures.as_before.0 (c.in-Err.ensures.as_before.1 ∙ ap index_of (sym c.in-Here.is)) (c.in-Err.ensures.half (after_mend K.strays K) r k2.held), inr refl)
+    let at = λ (here : LeavesNowIfTold c.args.self.now.told.history (IsNear K.state K.other)). subst (λ (v : View). LeavesNowIfTold v.told.history (IsNear K.state K.other)) (sym c.self.view_is) here in
+    inr (delete_tried c.args.self.now _ K (delete_change c.args.set c.args.through K.state) c.in-Err.fault (g.S.Shelf.told c.mend_for.new.shelf).history (shelf_fault _ _ c.in-Err.fault c.in-Err.ensures.causes.each)
+    (halved _ (after_mend K.strays K) k2 none c.args.set c.args.through below low (g.S.Shelf.told c.delete_versions.new.shelf) _ _ _ refl c.in-Err.ensures.as_before.0 (c.in-Err.ensures.as_before.1 ∙ ap index_of (sym c.in-Here.is)) (c.in-Err.ensures.half (after_mend K.strays K) r k2.held))
+    (λ here. subst (λ (v : View). LeavesOnlyIfTold v.told.history (g.S.Shelf.told c.mend_for.new.shelf).history (IsNear K.state K.other)) c.self.view_is (c.mend_for.ensures.any_moment K sees (at here)))
+    (λ here. c.in-Err.ensures.refused_moment (after_mend K.strays K) r
+    (mended_now K c.self.inside.pending _ _ (λ e. alone K k.core.other Not (sym k.pending ∙ e) not_failed) (c.mend_for.ensures.any_moment K sees (at here)) (λ waits. c.in_ok-mend_for.ensures.acknowledged waits K sees k.held))))
 
 pub returns-in-Ok-clause-any_moment : goal.returns-in-Ok-clause-any_moment
 returns-in-Ok-clause-any_moment g c K keeps here =

@@ -25,7 +25,7 @@ struct Noted {
 }
 
 impl Shelf for Noted {
-    ghost use Rattle.std.specs.Prelude.{MatchOption};
+    ghost use Rattle.std.specs.Prelude.{MatchOption, None};
     ghost use Rattle.std.proofs.Common.{subst};
 
     ghost told = { λ s. record { blobs = None; history = None; faults = s.faults; gets = s.gets } };

@@ -1,5 +1,5 @@
 -- An open job goes on: a row for a chunk that is kept, and a container with its rows; and when its recipe may be committed.
-use Rattle.std.proofs.Common.{◌≡◌, ◌⊎◌, inl, inr, ⊎_elim, ℕ, zero, suc, ◌+◌, ◌<◌, ◌≤◌, ◌^◌, Bool, true, false, cond, length, map, max, List, [], ◌∷◌, ◌++◌, Option, Some, None, refl, sym, ◌∙◌, ap, subst, arith, length-append, append_assoc}
+use Rattle.std.proofs.Common.{◌≡◌, ◌⊎◌, inl, inr, ⊎_elim, ℕ, zero, suc, ◌+◌, ◌<◌, ◌≤◌, Bool, true, false, cond, length, map, max, List, [], ◌∷◌, ◌++◌, Option, Some, None, refl, sym, ◌∙◌, ap, subst, arith, length-append, append_assoc}
 use Rattle.std.specs.Prelude.{Contains, IfSome, IsSomeAnd, IsTrue, filter, nat_le, slice_index_or, option_map}
 use Rattle.std.specs.Option.{option_map_or}
 use Rattle.std.specs.List.{AllByRecursion, list_any}
@@ -28,7 +28,7 @@ use Rattle.commit_laws.proofs.Listing.{all_append, all_weaker, all_map, all_of, 
 use Rattle.commit_laws.proofs.Committing.{state_ascends, job_ids, job_low}
 use Rattle.commit_laws.proofs.Growing.{has_fp_more}
 use Rattle.keeper_tests.specs.declared.jobs.Draft.{Draft}
-use Rattle.keeper_tests.specs.Drafts.{IsOpen, IsDraft, row_in}
+use Rattle.keeper_tests.specs.Drafts.{IsDraft, row_in}
 
 -- the newest container that has a fingerprint
 

@@ -1,13 +1,11 @@
 -- A job begins, and ends.
-use Rattle.std.proofs.Common.{◌≡◌, ℕ, ◌+◌, ◌++◌, List, [], length, map, Option, Some, None, refl, sym, ◌∙◌, ap, subst, arith}
+use Rattle.std.proofs.Common.{◌≡◌, ℕ, ◌+◌, ◌++◌, List, [], Option, None, refl, sym, ◌∙◌, ap, subst, arith}
 use Rattle.std.specs.Prelude.{IsSome, IsSomeAnd, option_map}
 use Rattle.std.specs.List.{AllByRecursion}
 use Rattle.vault_types.specs.declared.Name.{Name}
 use Rattle.vault_types.specs.declared.Pending.{Pending}
-use Rattle.vault_types.specs.declared.Row.{Row}
-use Rattle.vault_types.specs.Tables.{Container}
-use Rattle.vault_types.specs.State.{latest_of, next_of, HasFp}
-use Rattle.vault_types.specs.Events.{Core, Change, Job, after_begin, after_refused}
+use Rattle.vault_types.specs.State.{latest_of, HasFp}
+use Rattle.vault_types.specs.Events.{Core, after_begin, after_refused}
 use Rattle.blob_parts.specs.Recipes.{FitsRow}
 use Rattle.keeper_catalog.specs.declared.JobInfo.{JobInfo}
 use Rattle.keeper_catalog.specs.View.{View, Keeps, job_info}

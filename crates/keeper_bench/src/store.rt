@@ -1,0 +1,77 @@
+// A store of many versions.
+ghost use Rattle.std.specs.Prelude.{IfOk};
+ghost use Rattle.keeper_tests.specs.Drafts.{IsIdle};
+
+use crate::watch::{Stop, micros};
+use keeper_core::Keeper;
+use keeper_tests::jobs::{back_up, delete};
+use std::alloc::Global;
+use std::time::Instant;
+use vault_ports::MemShelf;
+use vault_types::Answer;
+
+// So many bytes, in which no four at a multiple of four come twice, nor those of another number.
+fn payload(alloc: Global, number: u32, chunks: u32) -> Result<Vec<u8>, Stop> {
+    let mut bytes = Vec::new(alloc);
+    for chunk in 0..chunks {
+        let value = number.wrapping_mul(1000).wrapping_add(chunk);
+        bytes.extend_from_slice(&value.to_be_bytes())?;
+    }
+    Ok(bytes)
+}
+
+// Backs up a version of 1,000 new chunks, in containers of so many bytes.
+fn add_version(
+    alloc: Global,
+    keeper: &mut Keeper<MemShelf>,
+    number: u32,
+    size: usize,
+) -> Result<(), Stop>
+    requires { IsIdle keeper.old }
+    ensures { IsIdle keeper.new }
+{
+    let bytes = payload(alloc, number, 1000)?;
+    let payloads: Vec<&[u8]> = bytes.chunks(size.max(1)).collect(alloc)?;
+    back_up(alloc, keeper, 0, b"", payloads.as_slice())?;
+    Ok(())
+}
+
+fn opened(alloc: Global, shelf: MemShelf) -> Result<Keeper<MemShelf>, Stop>
+    ensures { IfOk result IsIdle }
+{
+    match Keeper::start(alloc, shelf) {
+        Ok(keeper) => Ok(keeper),
+        Err(_) => Err(Stop::Refused),
+    }
+}
+
+/// Makes the store, and times its events.
+pub fn time_store(rt: HostRuntime, versions: u32) -> Result<(), Stop> {
+    let alloc = rt.alloc();
+    let mut keeper = opened(alloc, MemShelf::new(alloc))?;
+    add_version(alloc, &mut keeper, 0, 400)?;
+    for number in 1..versions {
+        add_version(alloc, &mut keeper, number, 4000)?;
+    }
+    let shelf = keeper.close();
+
+    let start = Instant::now(&rt)?;
+    let mut keeper = opened(alloc, shelf)?;
+    let opening = micros(rt, &start)?;
+
+    let start = Instant::now(&rt)?;
+    add_version(alloc, &mut keeper, versions, 400)?;
+    let backup = micros(rt, &start)?;
+
+    let start = Instant::now(&rt)?;
+    let reclaimed = match delete(&mut keeper, 0, 1)? {
+        Answer::Removed { reclaimed, .. } => reclaimed,
+        _ => 0,
+    };
+    let deletion = micros(rt, &start)?;
+
+    println!(rt;
+        "{versions} versions: opening {opening} us, a backup into ten containers {backup} us, a deletion of one version {deletion} us, {reclaimed} containers reclaimed"
+    )?;
+    Ok(())
+}

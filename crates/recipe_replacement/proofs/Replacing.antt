@@ -1,6 +1,6 @@
 -- A recipe that takes the place of its version's.
-use Rattle.std.proofs.Common.{◌≡◌, ◌≢◌, ◌⊎◌, inl, inr, ⊎_elim, ℕ, ◌<◌, ◌≤◌, ◌+◌, ◌^◌, true, false, length, List, [], Option, Some, None, refl, sym, ◌∙◌, ap, subst, arith}
-use Rattle.std.specs.Prelude.{IsSome, IfSome, Contains}
+use Rattle.std.proofs.Common.{◌≡◌, ◌⊎◌, inl, inr, ⊎_elim, ℕ, ◌<◌, ◌≤◌, length, List, Option, Some, None, refl, sym, ◌∙◌, ap, subst, arith}
+use Rattle.std.specs.Prelude.{IsSome, IfSome}
 use Rattle.std.specs.FinMap as fin
 use Rattle.vault_types.specs.declared.Name.{Name}
 use Rattle.vault_types.specs.declared.Recipe.{Recipe}
@@ -9,12 +9,12 @@ use Rattle.vault_types.specs.Blobs.{recipe_bytes, recipe_bytes_2}
 use Rattle.vault_types.specs.Shelf.{Blobs, with_blob, recipe_name, floor_name, IsFloorBlob, IsRecipeBlob, Stands}
 use Rattle.vault_types.specs.Events.{Core, Change, IsNear, IsNeeded, Held, pinned_containers}
 use Rattle.vault_traits.specs.Crash.{History, LeavesNowIfTold, LeavesOnlyIfTold, ReadsAnImage}
-use Rattle.vault_traits.specs.Shelf.{MayBeWritten, blobs_with, history_settled}
-use Rattle.vault_traits.proofs.Maps.{get_other, get_is, is_or_not, written_or_other}
-use Rattle.vault_traits.proofs.Moments.{may_write, told_or_silent, silent, silent_write, silent_settle, then, ends}
+use Rattle.vault_traits.specs.Shelf.{MayBeWritten, blobs_with}
+use Rattle.vault_traits.proofs.Maps.{get_other, get_is, written_or_other}
+use Rattle.vault_traits.proofs.Moments.{may_write, told_or_silent, silent, silent_write}
 use Rattle.keeper_parts.specs.Parts.{HeldIfTold}
 use Rattle.keeper_parts.proofs.Standing.{keeps_container, needs_recipe}
-use Rattle.keeper_parts.proofs.Changing.{recipe_no_floor, recipe_no_table, recipe_no_payload, recipe_same, version_high, latest_low, told_may, settle_moment, near_alone}
+use Rattle.keeper_parts.proofs.Changing.{recipe_no_floor, recipe_no_table, recipe_no_payload, recipe_same, version_high, latest_low, near_alone}
 use Rattle.recipe_replacement.specs.Replacing.{IsRecipeOf, IsRecipeOfIfTold}
 
 module _ (S : State) (r : Recipe) (of : IsRecipeOf S r) where

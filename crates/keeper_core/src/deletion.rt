@@ -31,6 +31,7 @@ impl<S: Shelf> Keeper<S> {
         requires { self.old.job ≡ None }
         ensures ok { IfOk result (λ answer. (K : Core) → Keeps self.old K → (through < latest_of K.state set) × (answer ≡ removed K.state set through) × Keeps self.new (after_delete set through self.new.memo.strays K)) }
         ensures err { IfErr result (λ f. (K : Core) → Keeps self.old K → IsStill self.old self.new K ⊎ IsHalf self.old self.new (delete_change set through K.state) None f K) }
+        ensures same { (self.new.pins ≡ self.old.pins) × (self.new.job ≡ None) }
         ensures still { (K : Core) → Keeps self.old K → latest_of K.state set ≤ through → self.new ≡ self.old }
         ensures last { (K : Core) → Keeps self.old K → latest_of K.state set ≤ through → result ≡ Err (fault.LastVersion set through (latest_of K.state set)) }
         ensures cause { IfErr result (λ f. (K : Core) → Keeps self.old K → IsDeletionFault self.old.told.faults self.new.told.faults (latest_of K.state set ≤ through) f) }

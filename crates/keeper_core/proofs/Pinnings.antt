@@ -34,7 +34,7 @@ use Rattle.keeper_parts.proofs.Growing.{rows_of}
 use Rattle.keeper_catalog.specs.Catalog.{listed, AreMarks}
 use Rattle.keeper_catalog.specs.View.{View, Keeps}
 use Rattle.row_spots.specs.Spots.{spot_in, HasPlace, AreRuled}
-use Rattle.row_spots.proofs.Callers.{spots_same, row_place, ruled_all}
+use Rattle.row_spots.proofs.Callers.{places_rows, spots_same, row_place, ruled_all}
 use Rattle.commit_laws.specs.Laws.{pin_with, pinned_core}
 use Rattle.commit_laws.proofs.Listing.{all_append, all_of, all_at, found_is}
 use Rattle.commit_laws.proofs.Pinned.{filter_was, pinned_more, pin_core, pin_tables, pin_told}
@@ -73,6 +73,18 @@ spot_more cs more r h = step (container_in cs r.id) refl h
 spots_more : (cs more : List Container) (rows : List Row) → AllByRecursion (HasFp cs) rows → map (spot_of (cs ++ more)) rows ≡ map (spot_of cs) rows
 spots_more cs more [] h = refl
 spots_more cs more (r ∷ rows) h = ap (λ (s : Spot). s ∷ map (spot_of (cs ++ more)) rows) (spot_more cs more r h.0) ∙ ap (λ (ss : List Spot). spot_of cs r ∷ ss) (spots_more cs more rows h.1)
+
+-- and so in fewer, where its fingerprint is
+row_fewer : (cs more : List Container) (r : Row) → HasFp cs r → HasRow (cs ++ more) r → HasRow cs r
+row_fewer cs more r h has_row = step (container_in cs r.id) refl h
+  where
+    step : (o : Option Container) → container_in cs r.id ≡ o → IsSomeAnd o (λ c. IsTrue (has_fp r.fp c.table)) → HasRow cs r
+    step None e none = absurd none
+    step (Some c) e some = subst (λ (o : Option Container). IsSomeAnd o (λ c. Contains c.table.rows (record { fp = r.fp; len = r.len }))) (container_in-more cs more r.id c e ∙ sym e) has_row
+
+rows_fewer : (cs more : List Container) (rows : List Row) → AllByRecursion (HasFp cs) rows → AllByRecursion (HasRow (cs ++ more)) rows → AllByRecursion (HasRow cs) rows
+rows_fewer cs more [] h has_rows = tt
+rows_fewer cs more (r ∷ rows) h has_rows = (row_fewer cs more r h.0 has_rows.0, rows_fewer cs more rows h.1 has_rows.1)
 
 row_named : (cs : List Container) (r : Row) → HasRow cs r → has r.id (map id_of cs) ≡ true
 row_named cs r h = step (container_in cs r.id) refl h
@@ -195,13 +207,15 @@ module _ (v : View) (K : Core) (keeps : Keeps v K) where
 
   -- what is given of the version
   pub pinned_version : (s n : ℕ) (k : KeptVersion) (q : Recipe) (bytes : List ℕ) (spots : List Spot) → s < 256 → version_of K.state s n ≡ Some k → IsSome v.told.blobs → Has v.told.blobs (recipe_name s n) (Some bytes) → SpellsRecipe s n bytes q
-      → spots ≡ map (spot_in v.memo.tables) q.rows → IsPinned K.state k q.length spots q.whole
-  pinned_version s n k q bytes spots below kept tells there spells are =
+      → spots ≡ map (spot_in v.memo.tables) q.rows → AllByRecursion (HasPlace v.memo.tables) q.rows → IsPinned K.state k q.length spots q.whole
+  pinned_version s n k q bytes spots below kept tells there spells are placed =
       let says = says_version v K k s n q bytes keeps below kept tells there spells in
       record {
         bytes = spells.rules.total ∙ ap length_of says.rows;
         spots_are = are ∙ ap (map (spot_in v.memo.tables)) says.rows ∙ spots_same v.memo.tables (listed K) keeps.memo.tables k.rows
             ∙ spots_more K.state.containers (pinned_containers K.pins ++ put_by K.job) k.rows (rows_of K.state s n k (HasFp K.state.containers) keeps.core.state.rows kept);
+        rows = rows_fewer K.state.containers (pinned_containers K.pins ++ put_by K.job) k.rows (rows_of K.state s n k (HasFp K.state.containers) keeps.core.state.rows kept)
+            (places_rows v.memo.tables (listed K) keeps.memo.tables k.rows (subst (AllByRecursion (HasPlace v.memo.tables)) says.rows placed));
         sum = says.sum;
       }
 

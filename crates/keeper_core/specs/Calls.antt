@@ -1,5 +1,6 @@
 -- What the calls of a keeper give, and what a refusal leaves.
 use Rattle.std.specs.Prelude.{◌≡◌, ◌⊎◌, ℕ, ◌+◌, ◌≤◌, false, List, map, Option, Some, None, IfSome, IsSome, IsSomeAnd, Contains, slice_get}
+use Rattle.std.specs.List.{AllByRecursion}
 use Rattle.vault_types.specs.declared.Fp.{Fp}
 use Rattle.vault_types.specs.declared.Kind.{Kind}
 use Rattle.vault_types.specs.declared.Kind.TheVariants as kind
@@ -95,6 +96,7 @@ HasListed pins number s = (c : Container) × Lists pins number s.id c × (s.at +
 pub record IsPinned (S : State) (k : KeptVersion) (total : ℕ) (spots : List Spot) (whole : Option Fp) : Type 0 where
   pub bytes : total ≡ length_of k.rows
   pub spots_are : spots ≡ map (spot_of S.containers) k.rows
+  pub rows : AllByRecursion (HasRow S.containers) k.rows
   pub sum : IfSome whole (λ w. w ≡ k.sum)
 
 -- the container of a row is named by no version, or has no such chunk

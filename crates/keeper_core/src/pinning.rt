@@ -1,5 +1,5 @@
 //! Pins, and the payloads of pinned containers.
-ghost use Rattle.std.specs.Prelude.{◌≡◌, ◌<◌, ◌^◌, ◌++◌, ◌∷◌, [], ℕ, List, All, map, length, true, false, slice_get, IfOk, OnOk, OnErr, Err, IfSome, IfNone, IsSome, IsSomeAnd, Some};
+ghost use Rattle.std.specs.Prelude.{◌≡◌, ◌<◌, ◌^◌, ◌++◌, ◌∷◌, [], ℕ, List, All, map, length, true, false, slice_get, IfOk, OnOk, OnErr, Err, IfSome, IfNone, IsSome, IsSomeAnd, Some, Contains};
 ghost use Rattle.std.specs.List.{AllByRecursion};
 ghost use Rattle.vault_types.specs.Lists.{has};
 ghost use Rattle.vault_types.specs.Marks.{Mark, marked_ids};
@@ -90,7 +90,7 @@ impl<S: Shelf> Keeper<S> {
     pub fn pin(&mut self, alloc: Global, set: Set, version: Version) -> Result<Pinned, Fault>
         ensures ok { IfOk result (λ p. IsSome self.old.told.blobs → (K : Core) (k : KeptVersion) → Keeps self.old K → version_of K.state set version ≡ Some k → Keeps self.new (after_pin p.no set version k K) × IsPinned K.state k p.length p.spots.items p.whole) }
         ensures whole { IfOk result (λ p. IsSome self.old.told.blobs → (K : Core) (k : KeptVersion) → Keeps self.old K → version_of K.state set version ≡ Some k → IsWholeOf self.old.told.blobs set version k p.whole) }
-        ensures pinned { IfOk result (λ p. (K : Core) → Keeps self.old K → (pin : Pin) × (pin.number ≡ p.no) × Keeps self.new (with_pins (K.pins ++ pin ∷ []) K.strays K)) }
+        ensures pinned { IfOk result (λ p. (K : Core) → Keeps self.old K → (pin : Pin) × (pin.number ≡ p.no) × ((c : Container) → Contains pin.containers c → Contains K.state.containers c) × Keeps self.new (with_pins (K.pins ++ pin ∷ []) K.strays K)) }
         ensures given { IfOk result (λ p. (ids : List ℕ) × (self.new.pins ≡ self.old.pins ++ record { number = p.no; version = version; ids = ids } ∷ [])) }
         ensures fresh { IfOk result (λ p. has p.no (numbers self.old.pins) ≡ false) }
         ensures lists { IfOk result (λ p. (K : Core) → Keeps self.new K → AllByRecursion (HasListed K.pins p.no) p.spots.items) }

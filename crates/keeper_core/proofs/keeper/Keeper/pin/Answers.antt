@@ -3,13 +3,14 @@ use Rattle.std.specs.Prelude.{Err, IsSome, IsSomeAnd, slice_get}
 use Rattle.std.specs.List.{AllByRecursion}
 use Rattle.vault_types.specs.declared.Fault.{Fault}
 use Rattle.vault_types.specs.declared.Row.{Row}
-use Rattle.vault_types.specs.Lists.{set_of}
+use Rattle.vault_types.specs.Lists.{has, set_of}
+use Rattle.commit_laws.proofs.Pinned.{filter_was}
 use Rattle.vault_types.specs.Events.{Core}
 use Rattle.std.proofs.Common.{Some}
 use Rattle.vault_types.specs.Shelf.{recipe_name}
 use Rattle.blob_parts.specs.Causes.{Has, IsCause, HasCauses}
 use Rattle.row_spots.specs.declared.Unplaced.{Unplaced}
-use Rattle.row_spots.specs.Spots.{spot_in}
+use Rattle.row_spots.specs.Spots.{spot_in, HasPlace}
 use Rattle.keeper_catalog.specs.Catalog.{memo_of}
 use Rattle.keeper_catalog.specs.View.{View, Keeps}
 use Rattle.commit_laws.specs.Laws.{pin_with, pinned_core}
@@ -55,7 +56,7 @@ returns-clause-ok g c tells K k keeps kept =
     let says = says_version _ K k c.args.set c.args.version c.in_ok-recipe.recipe found.0 h c.ranges.set.fits kept tells_in found.1 found.2 in
     let pinned = pinned_rows _ K h c.as_slice-rows.result.now c.in-Ok.ensures.named c.in_ok-no.no c.args.set c.args.version c.in_ok-ids.ids.items (g.S.Shelf.told c.get_recipe.new.shelf) c.pin.new.self c.in_ok-ids.ensures c.in_ok-no.ensures.pinned c.in_ok-no.ensures.fresh c.in_ok-recipe.ensures.kept.blobs in (
       subst (λ (C : Core). Keeps (record { told = g.S.Shelf.told c.get_recipe.new.shelf; memo = memo_of c.self.inside.catalog; index = index_of c.self.inside.stand; pins = c.pin.new.self; job = job_of c.self.inside.stand; pending = c.self.inside.pending }) C) (ap (λ (l : List Row). pinned_core c.in_ok-no.no c.args.set c.args.version (set_of (map (λ (q : Row). q.id) l)) K) (rows ∙ says.rows) ∙ pin_is _ K h c.in_ok-no.no c.args.set c.args.version k) pinned,
-      pinned_version _ K h c.args.set c.args.version k c.in_ok-recipe.recipe found.0 c.in-Ok.spots.items c.ranges.set.fits kept tells_in found.1 found.2 (c.in-Ok.ensures.spots ∙ ap (map (spot_in (memo_of c.self.inside.catalog).tables)) rows),
+      pinned_version _ K h c.args.set c.args.version k c.in_ok-recipe.recipe found.0 c.in-Ok.spots.items c.ranges.set.fits kept tells_in found.1 found.2 (c.in-Ok.ensures.spots ∙ ap (map (spot_in (memo_of c.self.inside.catalog).tables)) rows) (subst (AllByRecursion (HasPlace (memo_of c.self.inside.catalog).tables)) rows c.in-Ok.ensures.placed),
     )
 
 pub returns-clause-whole : goal.returns-clause-whole
@@ -68,6 +69,7 @@ returns-clause-pinned g c K keeps =
     let k = subst (λ (v : View). Keeps v K) (sym c.self.view_is) keeps in (
       pin_with c.in_ok-no.no c.args.set c.args.version (set_of (map (λ (q : Row). q.id) c.as_slice-rows.result.now)) K.state,
       refl,
+      (λ d there. filter_was (λ e. has e.table.id (set_of (map (λ (q : Row). q.id) c.as_slice-rows.result.now))) K.state.containers d there),
       pinned_rows _ K k c.as_slice-rows.result.now c.in-Ok.ensures.named c.in_ok-no.no c.args.set c.args.version c.in_ok-ids.ids.items (g.S.Shelf.told c.get_recipe.new.shelf) c.pin.new.self c.in_ok-ids.ensures c.in_ok-no.ensures.pinned c.in_ok-no.ensures.fresh c.in_ok-recipe.ensures.kept.blobs,
     )
 

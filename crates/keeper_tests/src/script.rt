@@ -40,11 +40,26 @@ pub fn events_from<S: Shelf>(
     ensures { IsIdle keeper.new }
 {
     let mut answer = None;
-    for place in place..3 {
-        match event(alloc, keeper, place) {
+    for at in place..3 {
+        match event(alloc, keeper, at) {
             Ok(given) => answer = given,
-            Err(fault) => return Err((place, fault)),
+            Err(fault) => return Err((at, fault)),
         }
     }
     Ok(answer)
+}
+
+/// Makes the events; where one is refused, it and those behind it are made again. Gives what the deletion answered then,
+/// and none where no event was refused.
+pub fn events_again<S: Shelf>(
+    alloc: Global,
+    keeper: &mut Keeper<S>,
+) -> Option<Result<Option<Answer>, (usize, Fault)>>
+    requires { IsIdle keeper.old }
+    ensures { IsIdle keeper.new }
+{
+    match events_from(alloc, keeper, 0) {
+        Ok(_) => None,
+        Err((place, _)) => Some(events_from(alloc, keeper, place)),
+    }
 }

@@ -22,4 +22,4 @@ returns-in-Ok g c =
     let says = c.in-Ok.ensures.says in
     let half = c.in-Err-commit.ensures.err c.requires.opened.core c.requires.opened.job c.requires.opened.keeps
     (can_commit _ _ c.requires c.in-Ok.recipe c.in-Ok.ensures.rules says.set_is says.version_is says.next_is says.rows_are) in
-    idle _ _ half.1 refl
+    idle _ _ half.keeps refl

@@ -7,6 +7,6 @@ returns-in-Ok g c = idle _ _ (c.in-Ok.ensures.ok c.requires.core c.requires.keep
 
 pub returns-in-Err : goal.returns-in-Err
 returns-in-Err g c = ⊎_elim
-    (λ keeps. idle _ _ keeps (idle_job _ c.requires))
-    (λ half. idle _ _ half.1 refl)
+    (λ still. idle _ _ still.keeps (idle_job _ c.requires))
+    (λ half. idle _ _ half.keeps refl)
     (c.in-Err.ensures.err c.requires.core c.requires.keeps)

@@ -45,15 +45,40 @@ fn opened(alloc: Global, shelf: MemShelf) -> Result<Keeper<MemShelf>, Stop>
     }
 }
 
-/// Makes the store, and times its events.
-pub fn time_store(rt: HostRuntime, versions: u32) -> Result<(), Stop> {
-    let alloc = rt.alloc();
+// A store of so many versions, of which the first has ten containers, and each other one a container of its own.
+fn store_of(alloc: Global, versions: u32) -> Result<Keeper<MemShelf>, Stop>
+    ensures { IfOk result IsIdle }
+{
     let mut keeper = opened(alloc, MemShelf::new(alloc))?;
     add_version(alloc, &mut keeper, 0, 400)?;
     for number in 1..versions {
         add_version(alloc, &mut keeper, number, 4000)?;
     }
-    let shelf = keeper.close();
+    Ok(keeper)
+}
+
+/// Makes a store of three versions, opens it, deletes the first, and prints what is left.
+pub fn show_store(rt: HostRuntime) -> Result<(), Stop> {
+    let alloc = rt.alloc();
+    let shelf = store_of(alloc, 3)?.close();
+    let mut keeper = opened(alloc, shelf)?;
+    let reclaimed = match delete(&mut keeper, 0, 1)? {
+        Answer::Removed { reclaimed, .. } => reclaimed,
+        _ => 0,
+    };
+    let floor = keeper.floor(0);
+    let latest = keeper.latest(0);
+    let next = keeper.next_id();
+    println!(rt;
+        "keeper_bench VERSIONS; of three versions {floor} to {latest} stay, {reclaimed} containers are reclaimed, the next is {next}"
+    )?;
+    Ok(())
+}
+
+/// Makes the store, and times its events.
+pub fn time_store(rt: HostRuntime, versions: u32) -> Result<(), Stop> {
+    let alloc = rt.alloc();
+    let shelf = store_of(alloc, versions)?.close();
 
     let start = Instant::now(&rt)?;
     let mut keeper = opened(alloc, shelf)?;

@@ -11,17 +11,7 @@ use sha1::Sha1;
 use vault_types::{Fp, Id, Row};
 
 #[cfg(test)]
-mod crashing;
-#[cfg(test)]
-mod events;
-#[cfg(test)]
-mod failing;
-#[cfg(test)]
 mod opening;
-#[cfg(test)]
-mod script;
-#[cfg(test)]
-mod views;
 
 /// The SHA-1 of some bytes.
 pub fn sum(bytes: &[u8]) -> Fp

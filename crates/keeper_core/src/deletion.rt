@@ -1,5 +1,5 @@
 //! Deletions and releases.
-ghost use Rattle.std.specs.Prelude.{◌≡◌, ◌≤◌, ◌<◌, ◌+◌, ◌-◌, ◌^◌, ◌⊎◌, None, IfOk, IfErr, OnOk, OnErr, Err, IsTrue, length, Contains};
+ghost use Rattle.std.specs.Prelude.{◌≡◌, ◌≤◌, ◌<◌, ◌+◌, ◌-◌, ◌^◌, ◌⊎◌, None, IfOk, IfErr, OnOk, OnErr, Err, IsSome, IsTrue, length, Contains};
 ghost use Rattle.vault_types.specs.declared.Fault.TheVariants as fault;
 ghost use Rattle.vault_types.specs.declared.Name.{Name as Named};
 ghost use Rattle.vault_types.specs.Lists.{has};
@@ -31,11 +31,16 @@ impl<S: Shelf> Keeper<S> {
         requires { self.old.job ≡ None }
         ensures ok { IfOk result (λ answer. (K : Core) → Keeps self.old K → (through < latest_of K.state set) × (answer ≡ removed K.state set through) × Keeps self.new (after_delete set through self.new.memo.strays K)) }
         ensures err { IfErr result (λ f. (K : Core) → Keeps self.old K → IsStill self.old self.new K ⊎ IsHalf self.old self.new (delete_change set through K.state) None f K) }
-        ensures same { (self.new.pins ≡ self.old.pins) × (self.new.job ≡ None) }
         ensures still { (K : Core) → Keeps self.old K → latest_of K.state set ≤ through → self.new ≡ self.old }
         ensures last { (K : Core) → Keeps self.old K → latest_of K.state set ≤ through → result ≡ Err (fault.LastVersion set through (latest_of K.state set)) }
         ensures cause { IfErr result (λ f. (K : Core) → Keeps self.old K → IsDeletionFault self.old.told.faults self.new.told.faults (latest_of K.state set ≤ through) f) }
         ensures later { self.old.told.faults ≤ self.new.told.faults }
+
+        // Whatever comes of it there is no job, and the pins stay; a refusal leaves what is in memory of the store, and a
+        // shelf that tells its blobs goes on.
+        ensures same { (self.new.job ≡ None) × (self.new.pins ≡ self.old.pins) }
+        ensures memo { IfErr result (λ f. self.new.memo ≡ self.old.memo) }
+        ensures tells { IsSome self.old.told.blobs → IsSome self.new.told.blobs }
 
         // A crash at any moment leaves what it could leave before, or the state before or behind the deletion; at `Ok`
         // only the one behind it.

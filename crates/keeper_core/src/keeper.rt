@@ -2,7 +2,7 @@
 ghost use Rattle.std.specs.Prelude.{◌≡◌, ◌↔◌, true, max, fold, map, IsSome};
 ghost use Rattle.vault_types.specs.State.{floor_of, latest_of, next_of};
 ghost use Rattle.vault_types.specs.Events.{Core};
-ghost use Rattle.keeper_catalog.specs.View.{Keeps};
+ghost use Rattle.keeper_catalog.specs.View.{Keeps, HasCore};
 
 use fp_index::Index;
 use keeper_catalog::{Catalog, JobInfo, SetInfo};
@@ -84,6 +84,13 @@ impl<S: Shelf> Keeper<S> {
         ensures { (K : Core) → Keeps self.now K → result ≡ next_of K.state }
     {
         next_of_sets(&self.catalog.sets)
+    }
+
+    /// For a caller's proof: some core is kept. Does nothing.
+    pub fn keeps_some_core(&self)
+        ensures { HasCore self.now }
+    {
+        let _stand = &self.stand;
     }
 
     /// Whether a job is open.

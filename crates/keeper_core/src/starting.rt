@@ -1,5 +1,7 @@
 //! Opening a store, and the recipes that it keeps.
-ghost use Rattle.std.specs.Prelude.{◌≡◌, [], IfOk, IfErr, IfSome, IsSome, Some, None};
+ghost use Rattle.std.specs.FinMap as fin;
+ghost use Rattle.std.specs.Prelude.{◌≡◌, [], IfOk, IfErr, IfSome, IsSome, Some, None, Contains};
+ghost use Rattle.vault_types.specs.declared.Name.{Name as Named};
 ghost use Rattle.vault_types.specs.State.{State, KeptVersion, version_of};
 ghost use Rattle.vault_types.specs.Events.{Core};
 ghost use Rattle.blob_parts.specs.Causes.{HasCauses, IsCause};
@@ -19,11 +21,12 @@ use vault_types::{Fault, Pending, Recipe, Set, Version};
 
 impl<S: Shelf> Keeper<S> {
     /// Opens the store on a shelf: its floors, its recipes, its tables, and the rows of all recipes are read and checked,
-    /// in this order; payloads are not read. Writes nothing. `StoreFault`, where the shelf failed; `Damaged`, where the blobs
+    /// in this order; payloads are not read. What no version needs is a stray. Writes nothing. `StoreFault`, where the shelf failed; `Damaged`, where the blobs
     /// are those of no store, with the first damage in that order; `Memory`. The shelf then comes back, as it was.
     pub fn start(alloc: Global, mut shelf: S) -> Result<Keeper<S>, (Fault, S)>
         ensures opened { IfOk result (λ k. (T : State) × IfSome (S.told shelf).blobs (λ m. Opens m T) × Keeps k (opened_core T k.memo.strays)) }
         ensures each { IfOk result (λ k. IfSome (S.told shelf).blobs (λ m. (T : State) → Opens m T → Keeps k (opened_core T k.memo.strays))) }
+        ensures strays { IfOk result (λ k. IfSome (S.told shelf).blobs (λ m. (n : Named) → Contains k.memo.strays n → IsSome (fin.get m n))) }
         ensures shelf { IfOk result (λ k. (k.told.blobs ≡ (S.told shelf).blobs) × (k.told.history ≡ (S.told shelf).history) × (k.told.gets ≡ (S.told shelf).gets)) }
         ensures fresh { IfOk result (λ k. (k.job ≡ None) × (k.pins ≡ []) × (k.pending ≡ Pending.Opened)) }
         ensures back { IfErr result (λ e. ((S.told e.1).blobs ≡ (S.told shelf).blobs) × ((S.told e.1).history ≡ (S.told shelf).history) × ((S.told e.1).gets ≡ (S.told shelf).gets)) }

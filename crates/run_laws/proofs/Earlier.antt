@@ -1,6 +1,7 @@
 -- A run of lines behind an opening, which leaves the shelf but for its count of faults.
-use Rattle.std.proofs.Common.{◌≡◌, ◌≤◌, ◌+◌, ◌-◌, ℕ, List, subst, arith}
+use Rattle.std.proofs.Common.{◌≡◌, inl, inr, ⊎_elim, ◌≤◌, ◌+◌, ◌-◌, ℕ, List, subst, arith}
 use Rattle.vault_types.specs.declared.Limits.{Limits}
+use Rattle.vault_types.specs.declared.Name.{Name}
 use Rattle.vault_types.specs.declared.Answer.{Answer}
 use Rattle.vault_types.specs.declared.Line.{Line}
 use Rattle.vault_types.specs.State.{State}
@@ -9,6 +10,7 @@ use Rattle.vault_traits.specs.Told.{ShelfTold, PlacesTold}
 use Rattle.script_laws.specs.Causes.{Counts, CausesRise, counts_over}
 use Rattle.script_laws.specs.Complete.{IsComplete}
 use Rattle.script_laws.specs.Script.{RunsLines, MeansScript}
+use Rattle.script_laws.proofs.Following.{stay_more}
 use Rattle.script_laws.proofs.Rising.{rise_lower}
 use Rattle.run_laws.specs.Early.{IsSameBut}
 
@@ -34,22 +36,22 @@ complete_earlier limits sources S lines answers old new n later c = record {
 abbrev with_faults : ShelfTold → ℕ → ShelfTold
 with_faults old n = record { blobs = old.blobs; history = old.history; faults = n; gets = old.gets }
 
-means_earlier : (limits : Limits) (lines : List Line) (answers : List Answer) (mid new : ShelfTold) (n : ℕ) → n ≤ mid.faults → (sources : Sources) (S : State)
-    → MeansScript limits sources S lines answers mid new → MeansScript limits sources S lines answers (with_faults mid n) new
-means_earlier limits lines answers mid new n later sources S m = record {
+means_earlier : (limits : Limits) (lines : List Line) (answers : List Answer) (mid new : ShelfTold) (n : ℕ) → n ≤ mid.faults → (sources : Sources) (S : State) (Known Told : Name → Type 0) → ((q : Name) → Known q → Told q)
+    → MeansScript limits sources S lines answers Known mid new → MeansScript limits sources S lines answers Told (with_faults mid n) new
+means_earlier limits lines answers mid new n later sources S Known Told told m = record {
   table = m.table;
   shelf = record { blobs = m.shelf.blobs; valid = m.shelf.valid; loads = m.shelf.loads };
-  strays = record { later = omega (arith, later, m.strays.later); others = m.strays.others; few = λ below. omega (arith, m.strays.few below, later, m.strays.later); each = m.strays.each };
+  strays = record { later = omega (arith, later, m.strays.later); others = m.strays.others; few = λ below. omega (arith, m.strays.few below, later, m.strays.later); each = λ q stray. ⊎_elim (λ stays. inl (stay_more limits sources S lines answers Known Told told q stays)) (λ other. inr other) (m.strays.each q stray) };
   crash = λ images. let c = m.crash images in record { any_moment = c.any_moment; at_the_end = c.at_the_end };
 }
 
-runs_earlier : (limits : Limits) (lines : List Line) (answers : List Answer) (mid new : ShelfTold) (before now : PlacesTold) (n : ℕ) → n ≤ mid.faults → (From To : State → Type 0) → ((S : State) → To S → From S)
-    → RunsLines From limits lines answers mid new before now → RunsLines To limits lines answers (with_faults mid n) new before now
-runs_earlier limits lines answers mid new before now n later From To from r = record {
+runs_earlier : (limits : Limits) (lines : List Line) (answers : List Answer) (mid new : ShelfTold) (before now : PlacesTold) (n : ℕ) → n ≤ mid.faults → (From To : State → Type 0) (Known Told : State → Name → Type 0) → ((S : State) → To S → From S) → ((S : State) → To S → (q : Name) → Known S q → Told S q)
+    → RunsLines From Known limits lines answers mid new before now → RunsLines To Told limits lines answers (with_faults mid n) new before now
+runs_earlier limits lines answers mid new before now n later From To Known Told from told r = record {
   kinds = r.kinds;
   causes = causes_earlier (counts_over mid before) (counts_over new now) n answers later r.causes;
   others = r.others;
-  means = λ S sources to fed. means_earlier limits lines answers mid new n later sources S (r.means S sources (from S to) fed);
+  means = λ S sources to fed. means_earlier limits lines answers mid new n later sources S (Known S) (Told S) (told S to) (r.means S sources (from S to) fed);
   outputs = λ S sources to fed. r.outputs S sources (from S to) fed;
   complete = λ S sources to fed all. complete_earlier limits sources S lines answers (counts_over mid before) (counts_over new now) n later (r.complete S sources (from S to) fed all);
 }
@@ -58,11 +60,11 @@ same_but : (old mid : ShelfTold) → IsSameBut old mid → with_faults mid old.f
 same_but old mid is = λ i. record { blobs = is.blobs i; history = is.history i; faults = old.faults; gets = is.gets i }
 
 -- a run behind the opening is a run from before it
-pub runs_opened : (limits : Limits) (lines : List Line) (answers : List Answer) (old mid new : ShelfTold) (before now : PlacesTold) (From To : State → Type 0) → IsSameBut old mid → ((S : State) → To S → From S)
-    → RunsLines From limits lines answers mid new before now → RunsLines To limits lines answers old new before now
-runs_opened limits lines answers old mid new before now From To same from r =
-    subst (λ (s : ShelfTold). RunsLines To limits lines answers s new before now) (same_but old mid same) (runs_earlier limits lines answers mid new before now old.faults same.later From To from r)
+pub runs_opened : (limits : Limits) (lines : List Line) (answers : List Answer) (old mid new : ShelfTold) (before now : PlacesTold) (From To : State → Type 0) (Known Told : State → Name → Type 0) → IsSameBut old mid → ((S : State) → To S → From S) → ((S : State) → To S → (q : Name) → Known S q → Told S q)
+    → RunsLines From Known limits lines answers mid new before now → RunsLines To Told limits lines answers old new before now
+runs_opened limits lines answers old mid new before now From To Known Told same from told r =
+    subst (λ (s : ShelfTold). RunsLines To Told limits lines answers s new before now) (same_but old mid same) (runs_earlier limits lines answers mid new before now old.faults same.later From To Known Told from told r)
 
-pub means_opened : (limits : Limits) (sources : Sources) (S : State) (lines : List Line) (answers : List Answer) (old mid new : ShelfTold) → IsSameBut old mid → MeansScript limits sources S lines answers mid new → MeansScript limits sources S lines answers old new
-means_opened limits sources S lines answers old mid new same m =
-    subst (λ (s : ShelfTold). MeansScript limits sources S lines answers s new) (same_but old mid same) (means_earlier limits lines answers mid new old.faults same.later sources S m)
+pub means_opened : (limits : Limits) (sources : Sources) (S : State) (lines : List Line) (answers : List Answer) (Known Told : Name → Type 0) (old mid new : ShelfTold) → ((q : Name) → Known q → Told q) → IsSameBut old mid → MeansScript limits sources S lines answers Known mid new → MeansScript limits sources S lines answers Told old new
+means_opened limits sources S lines answers Known Told old mid new told same m =
+    subst (λ (s : ShelfTold). MeansScript limits sources S lines answers Told s new) (same_but old mid same) (means_earlier limits lines answers mid new old.faults same.later sources S Known Told told m)

@@ -3,6 +3,7 @@ use Rattle.std.proofs.Common.{◌≡◌, ◌≤◌, ℕ, IsTrue, List, [], ◌�
 use Rattle.std.specs.Prelude.{Result, Ok, Err, OnOk, IfSome, false}
 use Rattle.vault_types.specs.declared.Limits.{Limits}
 use Rattle.vault_types.specs.declared.JobConfig.{JobConfig}
+use Rattle.vault_types.specs.declared.Name.{Name}
 use Rattle.vault_types.specs.declared.Fault.{Fault}
 use Rattle.vault_types.specs.declared.Answer.{Answer}
 use Rattle.vault_types.specs.declared.Line.{Line}
@@ -15,6 +16,7 @@ use Rattle.script_laws.specs.Calls.{BacksUpLine, RestoresLine, DeletesLine}
 use Rattle.script_laws.specs.Causes.{Counts, CausesRise, fits, counts_of_source, counts_of_sink, counts_of_shelf}
 use Rattle.script_laws.specs.Leaves.{Begins}
 use Rattle.script_laws.specs.Steps.{StepsOn, answer_of}
+use Rattle.script_laws.specs.Strays.{StraysOf}
 use Rattle.script_laws.specs.View.{IsKept}
 use Rattle.script_laws.proofs.Counting.{few_counted}
 use Rattle.script_laws.proofs.OneLine.{one_line_means}
@@ -24,16 +26,17 @@ use Rattle.run_laws.specs.Early.{IsSameBut}
 use Rattle.run_laws.specs.Courses.{RunsLine, RunsBackup, RunsRestore, RunsDelete}
 use Rattle.run_laws.proofs.Earlier.{with_store, causes_earlier, complete_earlier, means_opened}
 
-module _ {K : Type 0} (shelf : K → ShelfTold) (keeps : K → State → Option Change → Type 0) (keeps_is : (k : K) (S : State) (other : Option Change) → keeps k S other → IsKept (shelf k) S other) where
+module _ {K : Type 0} (shelf : K → ShelfTold) (keeps : K → State → Option Change → Type 0) (known : K → Name → Type 0) (keeps_is : (k : K) (S : State) (other : Option Change) → keeps k S other → IsKept (shelf k) S other)
+    (strays_known : (k : K) (S : State) (other : Option Change) → keeps k S other → (n : Name) → StraysOf (shelf k) S n → known k n) where
   line_run : (limits : Limits) (Fed : List ℕ → Type 0) (line : Line) (before : ShelfTold) (k k' : K) (a : Answer) (old new : Counts) → IsSameBut before (shelf k) → old.store ≡ (shelf k).faults
-      → ((S : State) → Begins before S → keeps k S None) → IsTrue (fits limits line a) → CausesRise old new (a ∷ [])
-      → ((S : State) (x : List ℕ) → keeps k S None → Fed x → (next : Option Change) × keeps k' (after (λ _. x) S line a) next × StepsOn limits (λ _. x) S None line a next (shelf k) (shelf k'))
+      → ((S : State) → Begins before S → keeps k S None) → ((S : State) → Begins before S → (n : Name) → known k n → StraysOf before S n) → IsTrue (fits limits line a) → CausesRise old new (a ∷ [])
+      → ((S : State) (x : List ℕ) → keeps k S None → Fed x → (next : Option Change) × keeps k' (after (λ _. x) S line a) next × StepsOn limits (λ _. x) S None line a next (known k) (known k') (shelf k) (shelf k'))
       → RunsLine limits Fed line before (shelf k') a (with_store old before.faults) new
-  line_run limits Fed line before k k' a old new same store begins kind causes steps = record {
+  line_run limits Fed line before k k' a old new same store begins told kind causes steps = record {
     kind = kind;
     causes = causes_earlier old new before.faults (a ∷ []) later causes;
-    means = λ S x start fed. means_opened limits (λ _. x) S (line ∷ []) (a ∷ []) before (shelf k) (shelf k') same
-        (one_line_means shelf keeps keeps_is limits (λ _. x) S k k' line a (begins S start) (steps S x (begins S start) fed));
+    means = λ S x start fed. means_opened limits (λ _. x) S (line ∷ []) (a ∷ []) (known k) (StraysOf before S) before (shelf k) (shelf k') (told S start) same
+        (one_line_means shelf keeps known keeps_is strays_known limits (λ _. x) S k k' line a (begins S start) (steps S x (begins S start) fed));
     complete = λ S x start fed all.
         let step = steps S x (begins S start) fed in
         complete_earlier limits (λ _. x) S (line ∷ []) (a ∷ []) old new before.faults later
@@ -49,19 +52,19 @@ module _ {K : Type 0} (shelf : K → ShelfTold) (keeps : K → State → Option 
 
   -- with no bytes given
   none_given : (limits : Limits) (S : State) (line : Line) (k k' : K) (a : Answer) (x : List ℕ) → x ≡ []
-      → (next : Option Change) × keeps k' (after (λ _. []) S line a) next × StepsOn limits (λ _. []) S None line a next (shelf k) (shelf k')
-      → (next : Option Change) × keeps k' (after (λ _. x) S line a) next × StepsOn limits (λ _. x) S None line a next (shelf k) (shelf k')
+      → (next : Option Change) × keeps k' (after (λ _. []) S line a) next × StepsOn limits (λ _. []) S None line a next (known k) (known k') (shelf k) (shelf k')
+      → (next : Option Change) × keeps k' (after (λ _. x) S line a) next × StepsOn limits (λ _. x) S None line a next (known k) (known k') (shelf k) (shelf k')
   none_given limits S line k k' a x none step =
-      subst (λ (y : List ℕ). (next : Option Change) × keeps k' (after (λ _. y) S line a) next × StepsOn limits (λ _. y) S None line a next (shelf k) (shelf k')) (sym none) step
+      subst (λ (y : List ℕ). (next : Option Change) × keeps k' (after (λ _. y) S line a) next × StepsOn limits (λ _. y) S None line a next (known k) (known k') (shelf k) (shelf k')) (sym none) step
 
   to_the_end : (result : Result Answer Fault) (now : SourceTold) → OnOk result (IfSome now.left (λ rest. rest ≡ [])) → is_refused (answer_of result) ≡ false → IfSome now.left (λ rest. rest ≡ [])
   to_the_end (Ok a) now end done = end
   to_the_end (Err f) now end done = cc
 
   pub backup_run : (limits : Limits) (before now : World) (k k' : K) (s : ℕ) (config : JobConfig) (result : Result Answer Fault) (f : Option Fault) → IsSameBut before.shelf (shelf k) → now.shelf ≡ shelf k'
-      → ((S : State) → Begins before.shelf S → keeps k S None) → BacksUpLine (keeps k) (keeps k') limits s config (shelf k) (shelf k') before.input now.input result
+      → ((S : State) → Begins before.shelf S → (n : Name) → known k n → StraysOf before.shelf S n) → ((S : State) → Begins before.shelf S → keeps k S None) → BacksUpLine (keeps k) (keeps k') (known k) (known k') limits s config (shelf k) (shelf k') before.input now.input result
       → IsPrinted (report_text (answer_of result ∷ [])) before.out now.out f → now.report ≡ before.report → now.places ≡ before.places → RunsBackup s config limits before now (answer_of result ∷ []) f
-  backup_run limits before now k k' s config result f same closed begins call printed report places = record {
+  backup_run limits before now k k' s config result f same closed told begins call printed report places = record {
     answer = answer_of result;
     one = refl;
     runs = runs;
@@ -74,12 +77,12 @@ module _ {K : Type 0} (shelf : K → ShelfTold) (keeps : K → State → Option 
       runs : RunsLine limits (λ x. before.input.left ≡ Some x) (Backup s [] config) before.shelf now.shelf (answer_of result) (counts_of_source before.shelf before.input) (counts_of_source now.shelf now.input)
       runs = subst (λ (t : ShelfTold). RunsLine limits (λ x. before.input.left ≡ Some x) (Backup s [] config) before.shelf t (answer_of result) (counts_of_source before.shelf before.input) (counts_of_source t now.input)) (sym closed)
           (line_run limits (λ x. before.input.left ≡ Some x) (Backup s [] config) before.shelf k k' (answer_of result) (counts_of_source (shelf k) before.input) (counts_of_source (shelf k') now.input)
-          same refl begins call.kind call.causes (λ S x keep fed. call.steps S None x keep fed))
+          same refl begins told call.kind call.causes (λ S x keep fed. call.steps S None x keep fed))
 
   pub restore_run : (limits : Limits) (before now : World) (k k' : K) (s v slots : ℕ) (result : Result Answer Fault) (f : Option Fault) → IsSameBut before.shelf (shelf k) → now.shelf ≡ shelf k'
-      → ((S : State) → Begins before.shelf S → keeps k S None) → RestoresLine (keeps k) (keeps k') s v slots (shelf k) (shelf k') before.out now.out result
+      → ((S : State) → Begins before.shelf S → (n : Name) → known k n → StraysOf before.shelf S n) → ((S : State) → Begins before.shelf S → keeps k S None) → RestoresLine (keeps k) (keeps k') (known k) (known k') s v slots (shelf k) (shelf k') before.out now.out result
       → IsPrinted (report_text (answer_of result ∷ [])) before.report now.report f → now.input ≡ before.input → now.places ≡ before.places → RunsRestore s v slots limits before now (answer_of result ∷ []) f
-  restore_run limits before now k k' s v slots result f same closed begins call printed input places = record {
+  restore_run limits before now k k' s v slots result f same closed told begins call printed input places = record {
     answer = answer_of result;
     one = refl;
     runs = runs;
@@ -92,12 +95,12 @@ module _ {K : Type 0} (shelf : K → ShelfTold) (keeps : K → State → Option 
       runs : RunsLine limits (λ x. x ≡ []) (Restore s v [] slots) before.shelf now.shelf (answer_of result) (counts_of_sink before.shelf before.out) (counts_of_sink now.shelf now.out)
       runs = subst (λ (t : ShelfTold). RunsLine limits (λ x. x ≡ []) (Restore s v [] slots) before.shelf t (answer_of result) (counts_of_sink before.shelf before.out) (counts_of_sink t now.out)) (sym closed)
           (line_run limits (λ x. x ≡ []) (Restore s v [] slots) before.shelf k k' (answer_of result) (counts_of_sink (shelf k) before.out) (counts_of_sink (shelf k') now.out)
-          same refl begins (call.kind limits) call.causes (λ S x keep none. none_given limits S (Restore s v [] slots) k k' (answer_of result) x none (call.steps S None limits keep)))
+          same refl begins told (call.kind limits) call.causes (λ S x keep none. none_given limits S (Restore s v [] slots) k k' (answer_of result) x none (call.steps S None limits keep)))
 
   pub delete_run : (limits : Limits) (before now : World) (k k' : K) (s n : ℕ) (result : Result Answer Fault) (f : Option Fault) → IsSameBut before.shelf (shelf k) → now.shelf ≡ shelf k'
-      → ((S : State) → Begins before.shelf S → keeps k S None) → DeletesLine (keeps k) (keeps k') s n (shelf k) (shelf k') result
+      → ((S : State) → Begins before.shelf S → (n : Name) → known k n → StraysOf before.shelf S n) → ((S : State) → Begins before.shelf S → keeps k S None) → DeletesLine (keeps k) (keeps k') (known k) (known k') s n (shelf k) (shelf k') result
       → IsPrinted (report_text (answer_of result ∷ [])) before.out now.out f → now.report ≡ before.report → now.input ≡ before.input → now.places ≡ before.places → RunsDelete s n limits before now (answer_of result ∷ []) f
-  delete_run limits before now k k' s n result f same closed begins call printed report input places = record {
+  delete_run limits before now k k' s n result f same closed told begins call printed report input places = record {
     answer = answer_of result;
     one = refl;
     runs = runs;
@@ -110,4 +113,4 @@ module _ {K : Type 0} (shelf : K → ShelfTold) (keeps : K → State → Option 
       runs : RunsLine limits (λ x. x ≡ []) (Delete s n) before.shelf now.shelf (answer_of result) (counts_of_shelf before.shelf) (counts_of_shelf now.shelf)
       runs = subst (λ (t : ShelfTold). RunsLine limits (λ x. x ≡ []) (Delete s n) before.shelf t (answer_of result) (counts_of_shelf before.shelf) (counts_of_shelf t)) (sym closed)
           (line_run limits (λ x. x ≡ []) (Delete s n) before.shelf k k' (answer_of result) (counts_of_shelf (shelf k)) (counts_of_shelf (shelf k'))
-          same refl begins (call.kind limits) call.causes (λ S x keep none. none_given limits S (Delete s n) k k' (answer_of result) x none (call.steps S None limits keep)))
+          same refl begins told (call.kind limits) call.causes (λ S x keep none. none_given limits S (Delete s n) k k' (answer_of result) x none (call.steps S None limits keep)))

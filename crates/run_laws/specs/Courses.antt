@@ -21,6 +21,7 @@ use Rattle.script_laws.specs.Complete.{IsWell, IsComplete}
 use Rattle.script_laws.specs.Leaves.{Begins}
 use Rattle.script_laws.specs.Outputs.{AreFedBy}
 use Rattle.script_laws.specs.Script.{MeansScript, RunsLines}
+use Rattle.script_laws.specs.Strays.{StraysOf}
 use Rattle.run_laws.specs.World.{World, IsPrinted, TakesFront, report_text}
 use Rattle.run_laws.specs.Early.{IsScript}
 
@@ -29,7 +30,7 @@ pub record RunsBatch (limits : Limits) (before now : World) (answers : List Answ
   pub lines : List Line
   pub script : IsScript limits before.input lines
   pub read : IfSome now.input.left (λ rest. rest ≡ [])
-  pub runs : RunsLines (Begins before.shelf) limits lines answers before.shelf now.shelf before.places now.places
+  pub runs : RunsLines (Begins before.shelf) (StraysOf before.shelf) limits lines answers before.shelf now.shelf before.places now.places
   pub printed : IsPrinted (report_text answers) before.out now.out f
   pub report : now.report ≡ before.report
 
@@ -38,7 +39,7 @@ pub record RunsBatch (limits : Limits) (before now : World) (answers : List Answ
 pub record RunsLine (limits : Limits) (Fed : List ℕ → Type 0) (line : Line) (before now : ShelfTold) (answer : Answer) (old new : Counts) : Type 0 where
   pub kind : IsTrue (fits limits line answer)
   pub causes : CausesRise old new (answer ∷ [])
-  pub means : (S : State) (x : List ℕ) → Begins before S → Fed x → MeansScript limits (λ _. x) S (line ∷ []) (answer ∷ []) before now
+  pub means : (S : State) (x : List ℕ) → Begins before S → Fed x → MeansScript limits (λ _. x) S (line ∷ []) (answer ∷ []) (StraysOf before S) before now
   pub complete : (S : State) (x : List ℕ) → Begins before S → Fed x → IsWell limits (λ _. x) S (line ∷ []) → IsComplete limits (λ _. x) S (line ∷ []) (answer ∷ []) old new
 
 -- a backup of what the input has left; the report is on `out`
@@ -138,7 +139,7 @@ pub record RunsFill (seed versions : ℕ) (limits : Limits) (before now : World)
   pub generated : AreGenerated seed versions made
   pub opened : left.faults ≡ 0
   pub read : left.read_faults ≡ 0
-  pub runs : RunsLines (Begins before.shelf) limits (fill_lines versions) answers before.shelf now.shelf made left
+  pub runs : RunsLines (Begins before.shelf) (StraysOf before.shelf) limits (fill_lines versions) answers before.shelf now.shelf made left
   pub room : (S : State) (sources : Sources) → Begins before.shelf S → AreFedBy made.files sources (fill_lines versions) → NeedRoom sources S (fill_lines versions) answers
   pub printed : IsSomeAnd left.files (λ files. IsPrinted (report_text answers ++ outputs_text files (fill_lines versions) answers) before.out now.out f)
   pub report : now.report ≡ before.report

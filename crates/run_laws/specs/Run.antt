@@ -13,6 +13,7 @@ use Rattle.vault_types.specs.State.{State}
 use Rattle.vault_traits.specs.Told.{SourceTold}
 use Rattle.script_laws.specs.Leaves.{Begins}
 use Rattle.script_laws.specs.Script.{RunsLines}
+use Rattle.script_laws.specs.Strays.{StraysOf}
 use Rattle.run_laws.specs.World.{World, status_after, IsPrinted, IsTold, report_text}
 use Rattle.run_laws.specs.Early.{CanOpen, EndsEarly, IsStartFault, IsSameBut}
 use Rattle.run_laws.specs.Courses.{RunsBatch, RunsBackup, RunsRestore, RunsDelete, RunsShow, RunsFill}
@@ -69,7 +70,7 @@ pub record EndsAtOpening (before now : World) (answers : List Answer) (f : Fault
 
 -- lines that ran over the places, with the report on `out`
 pub record RanLines (lines : List Line) (limits : Limits) (before now : World) (answers : List Answer) (f : Option Fault) : Type 0 where
-  pub runs : RunsLines (Begins before.shelf) limits lines answers before.shelf now.shelf before.places now.places
+  pub runs : RunsLines (Begins before.shelf) (StraysOf before.shelf) limits lines answers before.shelf now.shelf before.places now.places
   pub printed : IsPrinted (report_text answers) before.out now.out f
   pub report : now.report ≡ before.report
   pub input : now.input ≡ before.input

@@ -9,6 +9,7 @@ ghost use Rattle.vault_types.specs.declared.Fault.{Fault};
 ghost use Rattle.vault_types.specs.declared.JobConfig.{JobConfig};
 ghost use Rattle.vault_types.specs.declared.Limits.{Limits};
 ghost use Rattle.vault_types.specs.declared.Line.{Line};
+ghost use Rattle.vault_types.specs.declared.Name.{Name};
 ghost use Rattle.vault_types.specs.State.{State};
 ghost use Rattle.vault_types.specs.Words.{command_of};
 ghost use Rattle.vault_traits.specs.Told.{PlacesTold, ShelfTold, SourceTold};
@@ -16,6 +17,7 @@ ghost use Rattle.script_laws.specs.Calls.{BacksUpLine, DeletesLine, RestoresLine
 ghost use Rattle.script_laws.specs.Leaves.{Begins};
 ghost use Rattle.script_laws.specs.Script.{RunsLines};
 ghost use Rattle.script_laws.specs.Steps.{answer_of};
+ghost use Rattle.script_laws.specs.Strays.{StraysOf};
 ghost use Rattle.run_laws.specs.World.{World, IsPrinted, report_text};
 ghost use Rattle.run_laws.specs.Early.{CanOpen, EndsEarly, IsBatch, IsSameBut, IsScript};
 ghost use Rattle.run_laws.specs.Courses.{RunsBackup, RunsBatch, RunsDelete, RunsRestore};
@@ -39,21 +41,26 @@ pub fn scripts_are_batches()
 {}
 
 /// Lines that run behind an opening, which changes nothing of the shelf but its count of faults, are a run of them from
-/// before it.
-pub fn openings_change_no_run()
-    ensures { (limits : Limits) (lines : List Line) (answers : List Answer) (old opened new : ShelfTold) (before now : PlacesTold) → IsSameBut old opened
-        → RunsLines (Begins old) limits lines answers opened new before now → RunsLines (Begins old) limits lines answers old new before now }
+/// before it, where what is known as strays behind the opening are strays of its blobs.
+pub fn openings_change_no_run<K: StateKeeper>()
+    ensures { (limits : Limits) (lines : List Line) (answers : List Answer) (old new : ShelfTold) (k : K) (before now : PlacesTold) → IsSameBut old (K.shelf k)
+        → ((S : State) → Begins old S → (n : Name) → K.strays k n → StraysOf old S n) → ((S : State) → Begins old S → K.keeps k S None)
+        → RunsLines (λ S. K.keeps k S None) (λ S. K.strays k) limits lines answers (K.shelf k) new before now → RunsLines (Begins old) (StraysOf old) limits lines answers old new before now }
 {}
 
-/// A call behind an opening that runs one line is the run of its command.
+/// A call behind an opening that runs one line is the run of its command, where what is known as strays behind the opening
+/// are strays of its blobs.
 pub fn calls_are_runs<K: StateKeeper>()
     ensures backup { (limits : Limits) (before now : World) (k k' : K) (s : ℕ) (config : JobConfig) (result : Result Answer Fault) (f : Option Fault) → IsSameBut before.shelf (K.shelf k) → now.shelf ≡ K.shelf k'
-        → ((S : State) → Begins before.shelf S → K.keeps k S None) → BacksUpLine (K.keeps k) (K.keeps k') limits s config (K.shelf k) (K.shelf k') before.input now.input result
+        → ((S : State) → Begins before.shelf S → (n : Name) → K.strays k n → StraysOf before.shelf S n)
+        → ((S : State) → Begins before.shelf S → K.keeps k S None) → BacksUpLine (K.keeps k) (K.keeps k') (K.strays k) (K.strays k') limits s config (K.shelf k) (K.shelf k') before.input now.input result
         → IsPrinted (report_text (answer_of result ∷ [])) before.out now.out f → now.report ≡ before.report → now.places ≡ before.places → RunsBackup s config limits before now (answer_of result ∷ []) f }
     ensures restore { (limits : Limits) (before now : World) (k k' : K) (s v slots : ℕ) (result : Result Answer Fault) (f : Option Fault) → IsSameBut before.shelf (K.shelf k) → now.shelf ≡ K.shelf k'
-        → ((S : State) → Begins before.shelf S → K.keeps k S None) → RestoresLine (K.keeps k) (K.keeps k') s v slots (K.shelf k) (K.shelf k') before.out now.out result
+        → ((S : State) → Begins before.shelf S → (n : Name) → K.strays k n → StraysOf before.shelf S n)
+        → ((S : State) → Begins before.shelf S → K.keeps k S None) → RestoresLine (K.keeps k) (K.keeps k') (K.strays k) (K.strays k') s v slots (K.shelf k) (K.shelf k') before.out now.out result
         → IsPrinted (report_text (answer_of result ∷ [])) before.report now.report f → now.input ≡ before.input → now.places ≡ before.places → RunsRestore s v slots limits before now (answer_of result ∷ []) f }
     ensures delete { (limits : Limits) (before now : World) (k k' : K) (s n : ℕ) (result : Result Answer Fault) (f : Option Fault) → IsSameBut before.shelf (K.shelf k) → now.shelf ≡ K.shelf k'
-        → ((S : State) → Begins before.shelf S → K.keeps k S None) → DeletesLine (K.keeps k) (K.keeps k') s n (K.shelf k) (K.shelf k') result
+        → ((S : State) → Begins before.shelf S → (n : Name) → K.strays k n → StraysOf before.shelf S n)
+        → ((S : State) → Begins before.shelf S → K.keeps k S None) → DeletesLine (K.keeps k) (K.keeps k') (K.strays k) (K.strays k') s n (K.shelf k) (K.shelf k') result
         → IsPrinted (report_text (answer_of result ∷ [])) before.out now.out f → now.report ≡ before.report → now.input ≡ before.input → now.places ≡ before.places → RunsDelete s n limits before now (answer_of result ∷ []) f }
 {}

@@ -2,6 +2,7 @@
 use Rattle.std.proofs.Common.{◌≡◌, inl, inr, ⊎_elim, ℕ, List, [], ◌∷◌, Option, Some, None, refl, sym, subst, arith}
 use Rattle.std.specs.Prelude.{IsSomeAnd, IfSome}
 use Rattle.vault_types.specs.declared.Limits.{Limits}
+use Rattle.vault_types.specs.declared.Name.{Name}
 use Rattle.vault_types.specs.declared.Answer.{Answer}
 use Rattle.vault_types.specs.declared.Line.{Line}
 use Rattle.vault_types.specs.State.{State, IsValid}
@@ -17,6 +18,7 @@ use Rattle.script_laws.specs.Complete.{IsWell, IsComplete}
 use Rattle.script_laws.proofs.Staying.{AreWell, well_alone, well_behind}
 use Rattle.script_laws.specs.Outputs.{AreApartLines, OnFiles, KeepsOthers, AreOutputs}
 use Rattle.script_laws.specs.Script.{MeansScript, RunsLines}
+use Rattle.script_laws.specs.Strays.{StraysOf}
 use Rattle.script_laws.specs.View.{IsKept}
 use Rattle.script_laws.specs.Steps.{Moment, StepsLine, ReachesFrom, Chain}
 use Rattle.script_laws.proofs.Rising.{rise_more}
@@ -41,8 +43,9 @@ stands_at_end S May next valid change may (Some m) (inl stands) = inl stands
 stands_at_end S May None valid change may (Some m) (inr none) = absurd none
 stands_at_end S May (Some h) valid change may (Some m) (inr has) = inr (h.state, may h.state refl, has.other, nearly S change.0 h valid change.1 m has)
 
-module _ {K : Type 0} (shelf : K → ShelfTold) (keeps : K → State → Option Change → Type 0) (keeps_is : (k : K) (S : State) (other : Option Change) → keeps k S other → IsKept (shelf k) S other) (limits : Limits) where
-  kinds : (old new : Moment K) (lines : List Line) (answers : List Answer) → Chain (StepsLine shelf keeps limits) old lines answers new → AreFitting limits lines answers
+module _ {K : Type 0} (shelf : K → ShelfTold) (keeps : K → State → Option Change → Type 0) (known : K → Name → Type 0) (keeps_is : (k : K) (S : State) (other : Option Change) → keeps k S other → IsKept (shelf k) S other)
+    (strays_known : (k : K) (S : State) (other : Option Change) → keeps k S other → (n : Name) → StraysOf (shelf k) S n → known k n) (limits : Limits) where
+  kinds : (old new : Moment K) (lines : List Line) (answers : List Answer) → Chain (StepsLine shelf keeps known limits) old lines answers new → AreFitting limits lines answers
   kinds old new [] [] chain = tt
   kinds old new [] (answer ∷ answers) chain = absurd chain
   kinds old new (line ∷ lines) [] chain = absurd chain
@@ -51,7 +54,7 @@ module _ {K : Type 0} (shelf : K → ShelfTold) (keeps : K → State → Option 
   abbrev counts : Moment K → Counts
   counts m = counts_over (shelf m.keeper) m.places
 
-  causes : (old new : Moment K) (lines : List Line) (answers : List Answer) → Chain (StepsLine shelf keeps limits) old lines answers new → CausesRise (counts old) (counts new) answers
+  causes : (old new : Moment K) (lines : List Line) (answers : List Answer) → Chain (StepsLine shelf keeps known limits) old lines answers new → CausesRise (counts old) (counts new) answers
   causes old new [] [] chain = subst (λ (m : Moment K). CausesRise (counts old) (counts m) []) (sym chain) (record { store = omega arith; place = omega arith; read = omega arith; write = omega arith })
   causes old new [] (answer ∷ answers) chain = absurd chain
   causes old new (line ∷ lines) [] chain = absurd chain
@@ -65,7 +68,7 @@ module _ {K : Type 0} (shelf : K → ShelfTold) (keeps : K → State → Option 
         write = rise_more write_number (counts old).write (counts chain.0).write (counts new).write answer answers first.write rest.write;
       }
 
-  others : (old new : Moment K) (lines : List Line) (answers : List Answer) → Chain (StepsLine shelf keeps limits) old lines answers new → OnFiles old.places.files new.places.files (KeepsOthers lines)
+  others : (old new : Moment K) (lines : List Line) (answers : List Answer) → Chain (StepsLine shelf keeps known limits) old lines answers new → OnFiles old.places.files new.places.files (KeepsOthers lines)
   others old new [] [] chain = subst (λ (m : Moment K). OnFiles old.places.files m.places.files (KeepsOthers [])) (sym chain) (same old.places.files)
     where
       same : (o : Option Files) → OnFiles o o (KeepsOthers [])
@@ -76,21 +79,22 @@ module _ {K : Type 0} (shelf : K → ShelfTold) (keeps : K → State → Option 
   others old new (line ∷ lines) (answer ∷ answers) chain = files_then old.places.files chain.0.places.files new.places.files (KeepsOthers (line ∷ [])) (KeepsOthers lines) (KeepsOthers (line ∷ lines))
       (λ x y z told first rest. others_then line lines x y z first rest) chain.1.others (others chain.0 new lines answers chain.2)
 
-  pub means : (sources : Sources) (S : State) (old new : Moment K) (lines : List Line) (answers : List Answer) → keeps old.keeper S None → Follows shelf keeps limits sources S None old lines answers new
-      → MeansScript limits sources S lines answers (shelf old.keeper) (shelf new.keeper)
+  pub means : (sources : Sources) (S : State) (old new : Moment K) (lines : List Line) (answers : List Answer) → keeps old.keeper S None → Follows shelf keeps known limits sources S None old lines answers new
+      → MeansScript limits sources S lines answers (known old.keeper) (shelf old.keeper) (shelf new.keeper)
   means sources S old new lines answers keep chain =
-      let last = keeps_last shelf keeps limits sources S None old new lines answers keep chain in
+      let last = keeps_last shelf keeps known limits sources S None old new lines answers keep chain in
       let is = keeps_is new.keeper (state_after sources S lines answers) last.0 last.1 in
+      let passed = strays shelf keeps known limits sources S None old new lines answers chain in
       record {
-        table = table shelf keeps limits sources S None old new lines answers chain;
+        table = table shelf keeps known limits sources S None old new lines answers chain;
         shelf = record {
           blobs = stands_at_end (state_after sources S lines answers) (MayBeDone sources S lines answers) last.0 is.valid is.change (λ T h. left_alone sources S lines answers T (last.2 T h)) (shelf new.keeper).blobs is.blobs;
           valid = is.valid;
-          loads = loads shelf keeps limits sources S None old new lines answers chain;
+          loads = loads shelf keeps known limits sources S None old new lines answers chain;
         };
-        strays = strays shelf keeps limits sources S None old new lines answers chain;
+        strays = record { later = passed.later; others = passed.others; few = passed.few; each = λ n stray. passed.each n (strays_known new.keeper (state_after sources S lines answers) last.0 last.1 n stray) };
         crash = λ images.
-            let both = crashes shelf keeps limits sources S None old new lines answers chain (more_now (λ m. Stands m S) (IsNear S None) (λ m stands. inl stands) (shelf old.keeper).history images) in
+            let both = crashes shelf keeps known limits sources S None old new lines answers chain (more_now (λ m. Stands m S) (IsNear S None) (λ m stands. inl stands) (shelf old.keeper).history images) in
             record {
               any_moment = more (StandsForOne (ReachesFrom sources S None lines answers)) (StandsForOne (Reaches sources S lines answers)) (stand_more _ _ (reached_alone sources S lines answers)) _ _ both.0;
               at_the_end = more_now (StandsOrOther (state_after sources S lines answers) (LeftBy sources S None lines answers)) (StandsOrOther (state_after sources S lines answers) (MayBeDone sources S lines answers))
@@ -98,7 +102,7 @@ module _ {K : Type 0} (shelf : K → ShelfTold) (keeps : K → State → Option 
             };
       }
 
-  all_well : (sources : Sources) (S : State) (other : Option Change) (old new : Moment K) (lines : List Line) (answers : List Answer) → Follows shelf keeps limits sources S other old lines answers new → IsWell limits sources S lines
+  all_well : (sources : Sources) (S : State) (other : Option Change) (old new : Moment K) (lines : List Line) (answers : List Answer) → Follows shelf keeps known limits sources S other old lines answers new → IsWell limits sources S lines
       → AreWell limits sources S lines answers × IsSound (state_after sources S lines answers)
   all_well sources S other old new [] [] chain w = (tt, w.sound)
   all_well sources S other old new [] (answer ∷ answers) chain w = absurd chain
@@ -108,12 +112,12 @@ module _ {K : Type 0} (shelf : K → ShelfTold) (keeps : K → State → Option 
       let rest = all_well sources (after sources S line answer) chain.1 chain.0 new lines answers chain.6 (well_behind limits sources S lines line answer kept.valid chain.3.means.done w) in
       ((well_alone limits sources S lines line w, rest.0), rest.1)
 
-  completes : (sources : Sources) (S : State) (old new : Moment K) (lines : List Line) (answers : List Answer) → Chain (StepsLine shelf keeps limits) old lines answers new → Follows shelf keeps limits sources S None old lines answers new
+  completes : (sources : Sources) (S : State) (old new : Moment K) (lines : List Line) (answers : List Answer) → Chain (StepsLine shelf keeps known limits) old lines answers new → Follows shelf keeps known limits sources S None old lines answers new
       → IsWell limits sources S lines → IsComplete limits sources S lines answers (counts old) (counts new)
   completes sources S old new lines answers chain through w =
       let all = all_well sources S None old new lines answers through w in
       record {
-        each = well shelf keeps limits sources S None old new lines answers through all.0;
+        each = well shelf keeps known limits sources S None old new lines answers through all.0;
         sound = all.1;
         few = few_counted (counts old) (counts new) answers (causes old new lines answers chain);
       }
@@ -124,14 +128,14 @@ module _ {K : Type 0} (shelf : K → ShelfTold) (keeps : K → State → Option 
   only_outputs sources S lines answers (Some x) None h = h
   only_outputs sources S lines answers (Some x) (Some z) h = h.0
 
-  pub runs_of_chain : (old new : Moment K) (lines : List Line) (answers : List Answer) → AreApartLines lines → Chain (StepsLine shelf keeps limits) old lines answers new
-      → RunsLines (λ S. keeps old.keeper S None) limits lines answers (shelf old.keeper) (shelf new.keeper) old.places new.places
+  pub runs_of_chain : (old new : Moment K) (lines : List Line) (answers : List Answer) → AreApartLines lines → Chain (StepsLine shelf keeps known limits) old lines answers new
+      → RunsLines (λ S. keeps old.keeper S None) (λ S. known old.keeper) limits lines answers (shelf old.keeper) (shelf new.keeper) old.places new.places
   runs_of_chain old new lines answers apart chain = record {
     kinds = kinds old new lines answers chain;
     causes = causes old new lines answers chain;
     others = others old new lines answers chain;
-    means = λ S sources keep fed. means sources S old new lines answers keep (follows shelf keeps limits sources S None old new [] [] lines answers keep fed apart chain);
+    means = λ S sources keep fed. means sources S old new lines answers keep (follows shelf keeps known limits sources S None old new [] [] lines answers keep fed apart chain);
     outputs = λ S sources keep fed. only_outputs sources S lines answers old.places.files new.places.files
-        (outputs shelf keeps limits sources S None old new [] [] lines answers apart (follows shelf keeps limits sources S None old new [] [] lines answers keep fed apart chain));
-    complete = λ S sources keep fed all. completes sources S old new lines answers chain (follows shelf keeps limits sources S None old new [] [] lines answers keep fed apart chain) all;
+        (outputs shelf keeps known limits sources S None old new [] [] lines answers apart (follows shelf keeps known limits sources S None old new [] [] lines answers keep fed apart chain));
+    complete = λ S sources keep fed all. completes sources S old new lines answers chain (follows shelf keeps known limits sources S None old new [] [] lines answers keep fed apart chain) all;
   }

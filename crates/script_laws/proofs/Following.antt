@@ -115,9 +115,15 @@ stay_through limits sources S (line ∷ lines) (answer ∷ answers) P P' Q wider
     stay_through limits sources (after sources S line answer) lines answers (MayStayBehind limits S line answer P) (MayStayBehind limits S line answer P') Q
     (behind_through limits S line answer P P' Q wider) n here
 
+-- what may stay of fewer names may stay of more
+pub stay_more : (limits : Limits) (sources : Sources) (S : State) (lines : List Line) (answers : List Answer) (P Q : Name → Type 0) → ((n : Name) → P n → Q n) → (n : Name)
+    → MayStay limits sources S lines answers P n → MayStay limits sources S lines answers Q n
+stay_more limits sources S lines answers P Q wider n here =
+    ⊎_elim (λ stays. stays) (λ none. absurd none) (stay_through limits sources S lines answers P Q (λ k. ⊥) (λ k is. inl (wider k is)) n here)
+
 -- ---- chains
 
-module _ {K : Type 0} (shelf : K → ShelfTold) (keeps : K → State → Option Change → Type 0) (limits : Limits) where
+module _ {K : Type 0} (shelf : K → ShelfTold) (keeps : K → State → Option Change → Type 0) (known : K → Name → Type 0) (limits : Limits) where
   -- a chain of lines through states
   abbrev pub Follows : Sources → State → Option Change → Moment K → List Line → List Answer → Moment K → Type 0
   Follows sources S other old [] [] new = new ≡ old
@@ -125,13 +131,13 @@ module _ {K : Type 0} (shelf : K → ShelfTold) (keeps : K → State → Option 
   Follows sources S other old (line ∷ lines) [] new = ⊥
   Follows sources S other old (line ∷ lines) (answer ∷ answers) new =
       (mid : Moment K) × (next : Option Change) × keeps mid.keeper (after sources S line answer) next
-      × StepsOn limits sources S other line answer next (shelf old.keeper) (shelf mid.keeper)
+      × StepsOn limits sources S other line answer next (known old.keeper) (known mid.keeper) (shelf old.keeper) (shelf mid.keeper)
       × OnFiles old.places.files mid.places.files (KeepsOthers (line ∷ []))
       × OnFiles old.places.files mid.places.files (IsOutputOf S line answer)
       × Follows sources (after sources S line answer) next mid lines answers new
 
   pub follows : (sources : Sources) (S : State) (other : Option Change) (old new : Moment K) (before outputs : List (List ℕ)) (lines : List Line) (answers : List Answer)
-      → keeps old.keeper S other → AreFedBy old.places.files sources lines → AreApartFrom before outputs lines → Chain (StepsLine shelf keeps limits) old lines answers new
+      → keeps old.keeper S other → AreFedBy old.places.files sources lines → AreApartFrom before outputs lines → Chain (StepsLine shelf keeps known limits) old lines answers new
       → Follows sources S other old lines answers new
   follows sources S other old new before outputs [] [] keep fed apart chain = chain
   follows sources S other old new before outputs [] (answer ∷ answers) keep fed apart chain = absurd chain
@@ -180,8 +186,8 @@ module _ {K : Type 0} (shelf : K → ShelfTold) (keeps : K → State → Option 
       }
 
   pub strays : (sources : Sources) (S : State) (other : Option Change) (old new : Moment K) (lines : List Line) (answers : List Answer) → Follows sources S other old lines answers new
-      → StraysAreKnown limits sources S lines answers (shelf old.keeper) (shelf new.keeper)
-  strays sources S other old new [] [] chain = subst (λ (m : Moment K). StraysAreKnown limits sources S [] [] (shelf old.keeper) (shelf m.keeper)) (sym chain)
+      → StraysAreKnown limits sources S lines answers (known old.keeper) (known new.keeper) (shelf old.keeper) (shelf new.keeper)
+  strays sources S other old new [] [] chain = subst (λ (m : Moment K). StraysAreKnown limits sources S [] [] (known old.keeper) (known m.keeper) (shelf old.keeper) (shelf m.keeper)) (sym chain)
       (record { later = omega arith; others = []; few = λ below. omega arith; each = λ n stray. inl stray })
   strays sources S other old new [] (answer ∷ answers) chain = absurd chain
   strays sources S other old new (line ∷ lines) [] chain = absurd chain

@@ -32,16 +32,16 @@ use Rattle.script_laws.specs.Table.{MeansLine, MayBeAnswer, ShowsDamage}
 use Rattle.script_laws.specs.Leaves.{Gets, StandsForOne}
 use Rattle.script_laws.specs.Complete.{IsWellAnswered}
 use Rattle.script_laws.specs.Outputs.{OnFiles, KeepsOthers, AreFedBy, IsOutput, IsOutputOf, IsFrontOf}
-use Rattle.script_laws.specs.Strays.{IsStray, MayStayBehind}
+use Rattle.script_laws.specs.Strays.{MayStayBehind}
 use Rattle.script_laws.specs.Steps.{StepsOn, ReachesFrom, read_numbered, write_numbered}
 use Rattle.script_laws.specs.Calls.{HasWritten}
 use Rattle.script_laws.proofs.Following.{near_one}
 
 -- ---- a refusal that moves nothing
 
-pub unmoved : (limits : Limits) (sources : Sources) (S : State) (other : Option Change) (line : Line) (f : Fault) (shelf : ShelfTold) → MeansLine limits sources S line (Refused f) → IsWellAnswered limits sources S line (Refused f) → Gets S line (Refused f) 0
-    → StepsOn limits sources S other line (Refused f) other shelf shelf
-unmoved limits sources S other line f shelf means complete gets = record {
+pub unmoved : (limits : Limits) (sources : Sources) (S : State) (other : Option Change) (line : Line) (f : Fault) (Known : Name → Type 0) (shelf : ShelfTold) → MeansLine limits sources S line (Refused f) → IsWellAnswered limits sources S line (Refused f) → Gets S line (Refused f) 0
+    → StepsOn limits sources S other line (Refused f) other Known Known shelf shelf
+unmoved limits sources S other line f Known shelf means complete gets = record {
   means = means;
   complete = λ all. complete;
   next_other = inr (inl (inl refl, refl));
@@ -56,7 +56,7 @@ unmoved limits sources S other line f shelf means complete gets = record {
     Reached : Blobs → Type 0
     Reached = StandsForOne (ReachesFrom sources S other (line ∷ []) (Refused f ∷ []))
 
-    behind : (l : Line) (n : Name) → IfSome shelf.blobs (λ m. IsStray S m n) → MayStayBehind limits S l (Refused f) (λ k. IfSome shelf.blobs (λ m. IsStray S m k)) n
+    behind : (l : Line) (n : Name) → Known n → MayStayBehind limits S l (Refused f) Known n
     behind (Backup s name config) n stray = inl stray
     behind (Restore s v name cache) n stray = stray
     behind (Delete s through) n stray = stray
@@ -175,9 +175,9 @@ may_restore limits S s v name cache (Shown a b c) h = h
 may_restore limits S s v name cache (Migrated a) h = h
 may_restore limits S s v name cache (Scrubbed a b) h = h
 
-pub as_backup : (limits : Limits) (sources : Sources) (S : State) (other next : Option Change) (s : ℕ) (name : List ℕ) (config : JobConfig) (answer : Answer) (old new : ShelfTold)
-    → StepsOn limits (λ _. sources name) S other (Backup s [] config) answer next old new → StepsOn limits sources S other (Backup s name config) answer next old new
-as_backup limits sources S other next s name config answer old new st = record {
+pub as_backup : (limits : Limits) (sources : Sources) (S : State) (other next : Option Change) (s : ℕ) (name : List ℕ) (config : JobConfig) (answer : Answer) (Known Behind : Name → Type 0) (old new : ShelfTold)
+    → StepsOn limits (λ _. sources name) S other (Backup s [] config) answer next Known Behind old new → StepsOn limits sources S other (Backup s name config) answer next Known Behind old new
+as_backup limits sources S other next s name config answer Known Behind old new st = record {
   means = record { done = st.means.done; exact = st.means.exact; refused = may_backup limits S s name config answer st.means.refused; limit = st.means.limit; damage = tt };
   complete = λ all. st.complete (record { sound = all.sound; no_clash = all.no_clash; few = all.few });
   next_other = st.next_other;
@@ -186,9 +186,9 @@ as_backup limits sources S other next s name config answer old new st = record {
   crash = λ images. let both = st.crash images in record { any_moment = both.any_moment; behind = both.behind };
 }
 
-pub as_delete : (limits : Limits) (sources : Sources) (S : State) (other next : Option Change) (s n : ℕ) (answer : Answer) (old new : ShelfTold)
-    → StepsOn limits (λ _. []) S other (Delete s n) answer next old new → StepsOn limits sources S other (Delete s n) answer next old new
-as_delete limits sources S other next s n answer old new st = record {
+pub as_delete : (limits : Limits) (sources : Sources) (S : State) (other next : Option Change) (s n : ℕ) (answer : Answer) (Known Behind : Name → Type 0) (old new : ShelfTold)
+    → StepsOn limits (λ _. []) S other (Delete s n) answer next Known Behind old new → StepsOn limits sources S other (Delete s n) answer next Known Behind old new
+as_delete limits sources S other next s n answer Known Behind old new st = record {
   means = record { done = st.means.done; exact = st.means.exact; refused = st.means.refused; limit = tt; damage = tt };
   complete = λ all. st.complete (record { sound = all.sound; no_clash = all.no_clash; few = all.few });
   next_other = st.next_other;
@@ -197,9 +197,9 @@ as_delete limits sources S other next s n answer old new st = record {
   crash = λ images. let both = st.crash images in record { any_moment = both.any_moment; behind = both.behind };
 }
 
-pub as_restore : (limits : Limits) (sources : Sources) (S : State) (other next : Option Change) (s v : ℕ) (name : List ℕ) (cache : ℕ) (answer : Answer) (old new : ShelfTold)
-    → StepsOn limits (λ _. []) S other (Restore s v [] cache) answer next old new → StepsOn limits sources S other (Restore s v name cache) answer next old new
-as_restore limits sources S other next s v name cache answer old new st = record {
+pub as_restore : (limits : Limits) (sources : Sources) (S : State) (other next : Option Change) (s v : ℕ) (name : List ℕ) (cache : ℕ) (answer : Answer) (Known Behind : Name → Type 0) (old new : ShelfTold)
+    → StepsOn limits (λ _. []) S other (Restore s v [] cache) answer next Known Behind old new → StepsOn limits sources S other (Restore s v name cache) answer next Known Behind old new
+as_restore limits sources S other next s v name cache answer Known Behind old new st = record {
   means = record { done = st.means.done; exact = st.means.exact; refused = may_restore limits S s v name cache answer st.means.refused; limit = tt; damage = damage answer st.means.damage };
   complete = λ all. st.complete (record { sound = all.sound; no_clash = all.no_clash; few = all.few });
   next_other = st.next_other;
@@ -222,9 +222,9 @@ renumber_exact limits S s name config n m h = by (is_full S s limits) h
     by true e = cc
     by false e = refl
 
-renumber_read : (limits : Limits) (sources : Sources) (S : State) (other next : Option Change) (s : ℕ) (name : List ℕ) (config : JobConfig) (n m : ℕ) (old new : ShelfTold)
-    → StepsOn limits sources S other (Backup s name config) (Refused (fault.ReadFault n)) next old new → StepsOn limits sources S other (Backup s name config) (Refused (fault.ReadFault m)) next old new
-renumber_read limits sources S other next s name config n m old new st = record {
+renumber_read : (limits : Limits) (sources : Sources) (S : State) (other next : Option Change) (s : ℕ) (name : List ℕ) (config : JobConfig) (n m : ℕ) (Known Behind : Name → Type 0) (old new : ShelfTold)
+    → StepsOn limits sources S other (Backup s name config) (Refused (fault.ReadFault n)) next Known Behind old new → StepsOn limits sources S other (Backup s name config) (Refused (fault.ReadFault m)) next Known Behind old new
+renumber_read limits sources S other next s name config n m Known Behind old new st = record {
   means = record { done = inl refl; exact = renumber_exact limits S s name config n m st.means.exact; refused = refl; limit = record { too_many = λ k e. absurd (another k e); done = λ e. cc }; damage = tt };
   complete = λ all. inr (inr (inr refl));
   next_other = st.next_other;
@@ -236,10 +236,10 @@ renumber_read limits sources S other next s name config n m old new st = record 
     another : (k : ℕ) → Refused (fault.ReadFault m) ≡ Refused (fault.TooMany k) → ⊥
     another k e = cc
 
-pub read_steps : (limits : Limits) (sources : Sources) (S : State) (other next : Option Change) (s : ℕ) (name : List ℕ) (config : JobConfig) (f : Fault) (m : ℕ) (old new : ShelfTold)
-    → StepsOn limits sources S other (Backup s name config) (Refused f) next old new → StepsOn limits sources S other (Backup s name config) (Refused (read_numbered m f)) next old new
-read_steps limits sources S other next s name config (fault.ReadFault n) m old new st = renumber_read limits sources S other next s name config n m old new st
-read_steps limits sources S other next s name config f m old new st = st
+pub read_steps : (limits : Limits) (sources : Sources) (S : State) (other next : Option Change) (s : ℕ) (name : List ℕ) (config : JobConfig) (f : Fault) (m : ℕ) (Known Behind : Name → Type 0) (old new : ShelfTold)
+    → StepsOn limits sources S other (Backup s name config) (Refused f) next Known Behind old new → StepsOn limits sources S other (Backup s name config) (Refused (read_numbered m f)) next Known Behind old new
+read_steps limits sources S other next s name config (fault.ReadFault n) m Known Behind old new st = renumber_read limits sources S other next s name config n m Known Behind old new st
+read_steps limits sources S other next s name config f m Known Behind old new st = st
 
 pub read_kind : (limits : Limits) (s : ℕ) (name : List ℕ) (config : JobConfig) (f : Fault) (m : ℕ) → IsTrue (fits limits (Backup s [] config) (Refused f)) → IsTrue (fits limits (Backup s name config) (Refused (read_numbered m f)))
 read_kind limits s name config (fault.ReadFault n) m h = refl
@@ -432,9 +432,9 @@ renumber_write_exact limits S s v name cache n m h = by (is_kept S s v) h
     by true e = refl
     by false e = cc
 
-pub write_steps : (limits : Limits) (sources : Sources) (S : State) (other next : Option Change) (s v : ℕ) (name : List ℕ) (cache : ℕ) (f : Fault) (m : ℕ) (old new : ShelfTold)
-    → StepsOn limits sources S other (Restore s v name cache) (Refused f) next old new → StepsOn limits sources S other (Restore s v name cache) (Refused (write_numbered m f)) next old new
-write_steps limits sources S other next s v name cache (fault.WriteFault n) m old new st = record {
+pub write_steps : (limits : Limits) (sources : Sources) (S : State) (other next : Option Change) (s v : ℕ) (name : List ℕ) (cache : ℕ) (f : Fault) (m : ℕ) (Known Behind : Name → Type 0) (old new : ShelfTold)
+    → StepsOn limits sources S other (Restore s v name cache) (Refused f) next Known Behind old new → StepsOn limits sources S other (Restore s v name cache) (Refused (write_numbered m f)) next Known Behind old new
+write_steps limits sources S other next s v name cache (fault.WriteFault n) m Known Behind old new st = record {
   means = record { done = inl refl; exact = renumber_write_exact limits S s v name cache n m st.means.exact; refused = refl; limit = tt; damage = tt };
   complete = λ all. inr (inr (inr refl));
   next_other = st.next_other;
@@ -442,7 +442,7 @@ write_steps limits sources S other next s v name cache (fault.WriteFault n) m ol
   strays = record { later = st.strays.later; others = st.strays.others; few = st.strays.few; each = st.strays.each };
   crash = λ images. let both = st.crash images in record { any_moment = both.any_moment; behind = both.behind };
 }
-write_steps limits sources S other next s v name cache f m old new st = st
+write_steps limits sources S other next s v name cache f m Known Behind old new st = st
 
 -- what a restore counts, over places whose writer is closed behind it
 pub causes_sink : (a : Answer) (s0 s1 p0 p1 r0 r1 w0 w1 k : ℕ) → CausesRise (record { store = s0; place = 0; read = 0; write = 0 }) (record { store = s1; place = 0; read = 0; write = k }) (a ∷ [])

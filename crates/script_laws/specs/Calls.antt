@@ -1,8 +1,10 @@
 -- What the calls of a keeper that run one line ensure: a backup of what a source has left, a restore to a sink, and a
--- deletion. What the keeper keeps is given: a state, and the change that a failed write may have made.
+-- deletion. What the keeper keeps is given: a state, and the change that a failed write may have made; and the names that
+-- it knows as strays.
 use Rattle.std.specs.Prelude.{◌≡◌, ◌≤◌, ℕ, false, IsTrue, List, [], ◌∷◌, Option, Some, IfSome, IfOk, OnOk, Result, Ok, Err}
 use Rattle.vault_types.specs.declared.Limits.{Limits}
 use Rattle.vault_types.specs.declared.JobConfig.{JobConfig}
+use Rattle.vault_types.specs.declared.Name.{Name}
 use Rattle.vault_types.specs.declared.Fault.{Fault}
 use Rattle.vault_types.specs.declared.Answer.{Answer}
 use Rattle.vault_types.specs.declared.Answer.TheVariants.{Refused}
@@ -23,13 +25,13 @@ abbrev pub Keeping : Type 1
 Keeping = State → Option Change → Type 0
 
 -- a line with the name [] stands for the call alone
-pub record BacksUpLine (before behind : Keeping) (limits : Limits) (set : ℕ) (config : JobConfig) (old new : ShelfTold) (from to : SourceTold) (result : Result Answer Fault) : Type 0 where
+pub record BacksUpLine (before behind : Keeping) (Known Behind : Name → Type 0) (limits : Limits) (set : ℕ) (config : JobConfig) (old new : ShelfTold) (from to : SourceTold) (result : Result Answer Fault) : Type 0 where
   pub done : IfOk result (λ a. is_refused a ≡ false)
   pub kind : IsTrue (fits limits (Backup set [] config) (answer_of result))
   pub causes : CausesRise (counts_of_source old from) (counts_of_source new to) (answer_of result ∷ [])
   pub steps : (S : State) (other : Option Change) (x : List ℕ) → before S other → from.left ≡ Some x
       → (next : Option Change) × behind (after (λ _. x) S (Backup set [] config) (answer_of result)) next
-      × StepsOn limits (λ _. x) S other (Backup set [] config) (answer_of result) next old new
+      × StepsOn limits (λ _. x) S other (Backup set [] config) (answer_of result) next Known Behind old new
   pub to_the_end : OnOk result (IfSome to.left (λ rest. rest ≡ []))
 
 -- what a restore has written to a sink: all bytes of the version where it was done, a front of them where it was refused
@@ -37,22 +39,22 @@ abbrev pub HasWritten : State → ℕ → ℕ → Answer → Option (List ℕ) �
 HasWritten S s v answer before now =
     (front : List ℕ) × IsFrontOf front (bytes_of S s v) × Takes before now front × (is_refused answer ≡ false → front ≡ bytes_of S s v)
 
-pub record RestoresLine (before behind : Keeping) (set version slots : ℕ) (old new : ShelfTold) (from to : SinkTold) (result : Result Answer Fault) : Type 0 where
+pub record RestoresLine (before behind : Keeping) (Known Behind : Name → Type 0) (set version slots : ℕ) (old new : ShelfTold) (from to : SinkTold) (result : Result Answer Fault) : Type 0 where
   pub done : IfOk result (λ a. is_refused a ≡ false)
   pub kind : (limits : Limits) → IsTrue (fits limits (Restore set version [] slots) (answer_of result))
   pub causes : CausesRise (counts_of_sink old from) (counts_of_sink new to) (answer_of result ∷ [])
   pub steps : (S : State) (other : Option Change) (limits : Limits) → before S other
       → (next : Option Change) × behind (after (λ _. []) S (Restore set version [] slots) (answer_of result)) next
-      × StepsOn limits (λ _. []) S other (Restore set version [] slots) (answer_of result) next old new
+      × StepsOn limits (λ _. []) S other (Restore set version [] slots) (answer_of result) next Known Behind old new
   pub written : (S : State) (other : Option Change) → before S other → HasWritten S set version (answer_of result) from.taken to.taken
 
-pub record DeletesLine (before behind : Keeping) (set through : ℕ) (old new : ShelfTold) (result : Result Answer Fault) : Type 0 where
+pub record DeletesLine (before behind : Keeping) (Known Behind : Name → Type 0) (set through : ℕ) (old new : ShelfTold) (result : Result Answer Fault) : Type 0 where
   pub done : IfOk result (λ a. is_refused a ≡ false)
   pub kind : (limits : Limits) → IsTrue (fits limits (Delete set through) (answer_of result))
   pub causes : CausesRise (counts_of_shelf old) (counts_of_shelf new) (answer_of result ∷ [])
   pub steps : (S : State) (other : Option Change) (limits : Limits) → before S other
       → (next : Option Change) × behind (after (λ _. []) S (Delete set through) (answer_of result)) next
-      × StepsOn limits (λ _. []) S other (Delete set through) (answer_of result) next old new
+      × StepsOn limits (λ _. []) S other (Delete set through) (answer_of result) next Known Behind old new
 
 -- the places around a call: opened is how they stand behind the opening, and closed behind the closing
 

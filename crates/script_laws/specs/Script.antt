@@ -1,35 +1,36 @@
 -- A run of lines over a shelf and places.
 use Rattle.std.specs.Prelude.{List}
 use Rattle.vault_types.specs.declared.Limits.{Limits}
+use Rattle.vault_types.specs.declared.Name.{Name}
 use Rattle.vault_types.specs.declared.Answer.{Answer}
 use Rattle.vault_types.specs.declared.Line.{Line}
 use Rattle.vault_types.specs.State.{State}
 use Rattle.vault_types.specs.Shelf.{Stands}
-use Rattle.vault_types.specs.Script.{Sources}
+use Rattle.vault_types.specs.Script.{Sources, state_after}
 use Rattle.vault_traits.specs.Crash.{LeavesNowIfTold}
 use Rattle.vault_traits.specs.Told.{ShelfTold, PlacesTold}
 use Rattle.script_laws.specs.Causes.{AreFitting, CausesRise, counts_over}
 use Rattle.script_laws.specs.Table.{MeanLines}
 use Rattle.script_laws.specs.Leaves.{LeavesShelf, BearsCrashes}
 use Rattle.script_laws.specs.Outputs.{AreOutputs, KeepsOthers, OnFiles, AreFedBy}
-use Rattle.script_laws.specs.Strays.{StraysAreKnown}
+use Rattle.script_laws.specs.Strays.{StraysAreKnown, StraysOf}
 use Rattle.script_laws.specs.Complete.{IsWell, IsComplete}
 
--- what lines mean in a state: the table of answers, the blobs, the loads and the strays; and what a crash leaves, where
--- one at the beginning leaves only what stands for the state
-pub record MeansScript (limits : Limits) (sources : Sources) (S : State) (lines : List Line) (answers : List Answer) (old new : ShelfTold) : Type 0 where
+-- what lines mean in a state, where these names are known as strays: the table of answers, the blobs, the loads and the
+-- strays; and what a crash leaves, where one at the beginning leaves only what stands for the state
+pub record MeansScript (limits : Limits) (sources : Sources) (S : State) (lines : List Line) (answers : List Answer) (Known : Name → Type 0) (old new : ShelfTold) : Type 0 where
   pub table : MeanLines limits sources S lines answers
   pub shelf : LeavesShelf sources S lines answers old new
-  pub strays : StraysAreKnown limits sources S lines answers old new
+  pub strays : StraysAreKnown limits sources S lines answers Known (StraysOf new (state_after sources S lines answers)) old new
   pub crash : LeavesNowIfTold old.history (λ m. Stands m S) → BearsCrashes sources S lines answers old new
 
--- the lines ran: one answer for each, each refusal with its cause; and in each state that they may start from, where the
--- sources are told, the answers, the shelf and the outputs are those that the lines mean, and complete where all is well
-pub record RunsLines (From : State → Type 0) (limits : Limits) (lines : List Line) (answers : List Answer) (old new : ShelfTold) (before now : PlacesTold) : Type 0 where
+-- the lines ran: one answer for each, each refusal with its cause; and in each state that they may start from, with the
+-- strays that are known then, where the sources are told, the answers, the shelf and the outputs are those that the lines mean, and complete where all is well
+pub record RunsLines (From : State → Type 0) (Known : State → Name → Type 0) (limits : Limits) (lines : List Line) (answers : List Answer) (old new : ShelfTold) (before now : PlacesTold) : Type 0 where
   pub kinds : AreFitting limits lines answers
   pub causes : CausesRise (counts_over old before) (counts_over new now) answers
   pub others : OnFiles before.files now.files (KeepsOthers lines)
-  pub means : (S : State) (sources : Sources) → From S → AreFedBy before.files sources lines → MeansScript limits sources S lines answers old new
+  pub means : (S : State) (sources : Sources) → From S → AreFedBy before.files sources lines → MeansScript limits sources S lines answers (Known S) old new
   pub outputs : (S : State) (sources : Sources) → From S → AreFedBy before.files sources lines → OnFiles before.files now.files (AreOutputs sources S lines answers)
   pub complete : (S : State) (sources : Sources) → From S → AreFedBy before.files sources lines → IsWell limits sources S lines
       → IsComplete limits sources S lines answers (counts_over old before) (counts_over new now)

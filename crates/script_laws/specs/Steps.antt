@@ -1,5 +1,5 @@
 -- One line of a run: what it takes the shelf and the keeper's state to.
-use Rattle.std.specs.Prelude.{◌≡◌, ◌⊎◌, ◌≤◌, ◌<◌, ◌-◌, ◌*◌, ◌^◌, ℕ, false, IsTrue, List, [], ◌∷◌, length, Contains, Option, None, IsSomeAnd, IfSome, Result, Ok, Err}
+use Rattle.std.specs.Prelude.{◌≡◌, ◌⊎◌, ◌≤◌, ◌<◌, ◌-◌, ◌*◌, ◌^◌, ℕ, false, IsTrue, List, [], ◌∷◌, length, Contains, Option, None, IsSomeAnd, Result, Ok, Err}
 use Rattle.vault_types.specs.declared.Limits.{Limits}
 use Rattle.vault_types.specs.declared.Name.{Name}
 use Rattle.vault_types.specs.declared.Fault.{Fault}
@@ -18,7 +18,7 @@ use Rattle.script_laws.specs.Table.{MeansLine}
 use Rattle.script_laws.specs.Leaves.{Gets, StandsForOne}
 use Rattle.script_laws.specs.Complete.{IsWell, IsWellAnswered}
 use Rattle.script_laws.specs.Outputs.{OnFiles, KeepsOthers, IsOutputOf, AreFedBy}
-use Rattle.script_laws.specs.Strays.{IsStray, MayStayBehind}
+use Rattle.script_laws.specs.Strays.{MayStayBehind}
 
 abbrev pub answer_of : Result Answer Fault → Answer
 answer_of (Ok answer) = answer
@@ -46,26 +46,27 @@ IsNextOther sources S other line answer next =
 abbrev pub ReachesFrom : Sources → State → Option Change → List Line → List Answer → State → Type 0
 ReachesFrom sources S other lines answers T = IsSomeAnd other (λ h. h.state ≡ T) ⊎ Reaches sources S lines answers T
 
--- behind the line a stray is one that may stay, or one of two for each unit that the count of faults rose by
-pub record StraysStep (limits : Limits) (sources : Sources) (S : State) (line : Line) (answer : Answer) (old new : ShelfTold) : Type 0 where
+-- what is known as a stray behind the line was known before and may stay, or is one of two for each unit that the count of
+-- faults rose by
+pub record StraysStep (limits : Limits) (S : State) (line : Line) (answer : Answer) (Known Behind : Name → Type 0) (old new : ShelfTold) : Type 0 where
   pub later : old.faults ≤ new.faults
   pub others : List Name
   pub few : new.faults < 2 ^ 64 - 1 → length others ≤ 2 * (new.faults - old.faults)
-  pub each : (n : Name) → IfSome new.blobs (λ m. IsStray (after sources S line answer) m n)
-      → MayStayBehind limits S line answer (λ k. IfSome old.blobs (λ m. IsStray S m k)) n ⊎ Contains others n
+  pub each : (n : Name) → Behind n → MayStayBehind limits S line answer Known n ⊎ Contains others n
 
 -- a crash at any moment of the line leaves a state that it reaches, and one behind it the state then or with the change
 pub record BearsStep (sources : Sources) (S : State) (other : Option Change) (line : Line) (answer : Answer) (next : Option Change) (old new : Option History) : Type 0 where
   pub any_moment : LeavesOnlyIfTold old new (StandsForOne (ReachesFrom sources S other (line ∷ []) (answer ∷ [])))
   pub behind : LeavesNowIfTold new (IsNear (after sources S line answer) next)
 
--- what a line does in the state S, where a failed write may have made the change `other`
-pub record StepsOn (limits : Limits) (sources : Sources) (S : State) (other : Option Change) (line : Line) (answer : Answer) (next : Option Change) (old new : ShelfTold) : Type 0 where
+-- what a line does in the state S, where a failed write may have made the change `other`, and these names are known as
+-- strays before and behind it
+pub record StepsOn (limits : Limits) (sources : Sources) (S : State) (other : Option Change) (line : Line) (answer : Answer) (next : Option Change) (Known Behind : Name → Type 0) (old new : ShelfTold) : Type 0 where
   pub means : MeansLine limits sources S line answer
   pub complete : IsWell limits sources S (line ∷ []) → IsWellAnswered limits sources S line answer
   pub next_other : IsNextOther sources S other line answer next
   pub gets : (n : ℕ) × (new.gets ≡ counted_up old.gets n) × Gets S line answer n
-  pub strays : StraysStep limits sources S line answer old new
+  pub strays : StraysStep limits S line answer Known Behind old new
   pub crash : LeavesNowIfTold old.history (IsNear S other) → BearsStep sources S other line answer next old.history new.history
 
 -- a keeper and the places, between two lines
@@ -74,12 +75,12 @@ pub record Moment (K : Type 0) : Type 0 where
   pub places : PlacesTold
 
 -- a line: one answer of its kind, each refusal with its cause; and in each state that the keeper keeps, what it means there
-pub record StepsLine {K : Type 0} (shelf : K → ShelfTold) (keeps : K → State → Option Change → Type 0) (limits : Limits) (old : Moment K) (line : Line) (answer : Answer) (new : Moment K) : Type 0 where
+pub record StepsLine {K : Type 0} (shelf : K → ShelfTold) (keeps : K → State → Option Change → Type 0) (known : K → Name → Type 0) (limits : Limits) (old : Moment K) (line : Line) (answer : Answer) (new : Moment K) : Type 0 where
   pub kind : IsTrue (fits limits line answer)
   pub causes : CausesRise (counts_over (shelf old.keeper) old.places) (counts_over (shelf new.keeper) new.places) (answer ∷ [])
   pub others : OnFiles old.places.files new.places.files (KeepsOthers (line ∷ []))
   pub means : (S : State) (other : Option Change) (sources : Sources) → keeps old.keeper S other → AreFedBy old.places.files sources (line ∷ [])
-      → (next : Option Change) × keeps new.keeper (after sources S line answer) next × StepsOn limits sources S other line answer next (shelf old.keeper) (shelf new.keeper)
+      → (next : Option Change) × keeps new.keeper (after sources S line answer) next × StepsOn limits sources S other line answer next (known old.keeper) (known new.keeper) (shelf old.keeper) (shelf new.keeper)
   pub output : (S : State) (other : Option Change) (sources : Sources) → keeps old.keeper S other → AreFedBy old.places.files sources (line ∷ [])
       → OnFiles old.places.files new.places.files (IsOutputOf S line answer)
 

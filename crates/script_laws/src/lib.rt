@@ -12,6 +12,7 @@ ghost use Rattle.vault_types.specs.declared.Fault.TheVariants as fault;
 ghost use Rattle.vault_types.specs.declared.JobConfig.{JobConfig};
 ghost use Rattle.vault_types.specs.declared.Limits.{Limits};
 ghost use Rattle.vault_types.specs.declared.Line.{Line};
+ghost use Rattle.vault_types.specs.declared.Name.{Name};
 ghost use Rattle.vault_types.specs.declared.Line.TheVariants.{Backup, Restore, Delete};
 ghost use Rattle.vault_types.specs.Events.{Change, HasChange, IsChange};
 ghost use Rattle.vault_types.specs.Lists.{IsAscending};
@@ -27,6 +28,7 @@ ghost use Rattle.script_laws.specs.Causes.{CausesRise, Counts};
 ghost use Rattle.script_laws.specs.Complete.{AreBelowLast, IsWell, is_counted};
 ghost use Rattle.script_laws.specs.Outputs.{AreApartLines};
 ghost use Rattle.script_laws.specs.Script.{MeansScript, RunsLines};
+ghost use Rattle.script_laws.specs.Strays.{StraysOf};
 ghost use Rattle.script_laws.specs.Steps.{Chain, Moment, StepsLine, StepsOn, answer_of};
 ghost use Rattle.script_laws.specs.View.{IsKept};
 
@@ -38,21 +40,26 @@ pub trait StateKeeper {
     /// It keeps this state, and a failed write may have made this change. It has no job and no pin.
     ghost keeps: { Self → State → Option Change → Type 0 };
 
+    /// These names it knows as strays.
+    ghost strays: { Self → Name → Type 0 };
+
     ghost keeps_is: { (k : Self) (S : State) (other : Option Change) → keeps k S other → IsKept (shelf k) S other };
+
+    ghost strays_known: { (k : Self) (S : State) (other : Option Change) → keeps k S other → (n : Name) → StraysOf (shelf k) S n → strays k n };
 }
 
 /// Lines one after another, from a keeper whose last write did not fail, are a run: each answers and leaves what it means
 /// in the state that those before it leave.
 pub fn lines_are_a_run<K: StateKeeper>()
-    ensures { (limits : Limits) (old new : Moment K) (lines : List Line) (answers : List Answer) → AreApartLines lines → Chain (StepsLine K.shelf K.keeps limits) old lines answers new
-        → RunsLines (λ S. K.keeps old.keeper S None) limits lines answers (K.shelf old.keeper) (K.shelf new.keeper) old.places new.places }
+    ensures { (limits : Limits) (old new : Moment K) (lines : List Line) (answers : List Answer) → AreApartLines lines → Chain (StepsLine K.shelf K.keeps K.strays limits) old lines answers new
+        → RunsLines (λ S. K.keeps old.keeper S None) (λ S. K.strays old.keeper) limits lines answers (K.shelf old.keeper) (K.shelf new.keeper) old.places new.places }
 {}
 
 /// What a call does that runs one line is what a script of that line means.
 pub fn calls_are_scripts<K: StateKeeper>()
     ensures { (limits : Limits) (sources : Sources) (S : State) (k k' : K) (line : Line) (answer : Answer) → K.keeps k S None
-        → (next : Option Change) × K.keeps k' (after sources S line answer) next × StepsOn limits sources S None line answer next (K.shelf k) (K.shelf k')
-        → MeansScript limits sources S (line ∷ []) (answer ∷ []) (K.shelf k) (K.shelf k') }
+        → (next : Option Change) × K.keeps k' (after sources S line answer) next × StepsOn limits sources S None line answer next (K.strays k) (K.strays k') (K.shelf k) (K.shelf k')
+        → MeansScript limits sources S (line ∷ []) (answer ∷ []) (K.strays k) (K.shelf k) (K.shelf k') }
 {}
 
 /// A backup's line: refused where the store is full, where the source could not be opened or where there was no memory
@@ -60,16 +67,16 @@ pub fn calls_are_scripts<K: StateKeeper>()
 pub fn backups_are_lines<K: StateKeeper>()
     ensures full { (limits : Limits) (k : K) (p : PlacesTold) (s : ℕ) (name : List ℕ) (config : JobConfig) (latest next : ℕ) → ((S : State) (other : Option Change) → K.keeps k S other → true ≡ is_full S s limits)
         → ((S : State) (other : Option Change) → K.keeps k S other → latest ≡ latest_of S s) → ((S : State) (other : Option Change) → K.keeps k S other → next ≡ next_of S)
-        → StepsLine K.shelf K.keeps limits (record { keeper = k; places = p }) (Backup s name config) (Refused (fault.Full s latest next)) (record { keeper = k; places = p }) }
+        → StepsLine K.shelf K.keeps K.strays limits (record { keeper = k; places = p }) (Backup s name config) (Refused (fault.Full s latest next)) (record { keeper = k; places = p }) }
     ensures not_opened { (limits : Limits) (k : K) (p q : PlacesTold) (s : ℕ) (name : List ℕ) (config : JobConfig) → ((S : State) (other : Option Change) → K.keeps k S other → false ≡ is_full S s limits)
         → AreKept p.files q.files → q.read_faults ≡ p.read_faults → q.write_faults ≡ p.write_faults → Rose p.faults q.faults
-        → StepsLine K.shelf K.keeps limits (record { keeper = k; places = p }) (Backup s name config) (Refused (fault.PlaceFault q.faults)) (record { keeper = k; places = q }) }
+        → StepsLine K.shelf K.keeps K.strays limits (record { keeper = k; places = p }) (Backup s name config) (Refused (fault.PlaceFault q.faults)) (record { keeper = k; places = q }) }
     ensures no_memory { (limits : Limits) (k : K) (p q : PlacesTold) (s : ℕ) (name : List ℕ) (config : JobConfig) → ((S : State) (other : Option Change) → K.keeps k S other → false ≡ is_full S s limits)
         → AreKept p.files q.files → q.read_faults ≡ p.read_faults → q.write_faults ≡ p.write_faults → p.faults ≤ q.faults
-        → StepsLine K.shelf K.keeps limits (record { keeper = k; places = p }) (Backup s name config) (Refused fault.Memory) (record { keeper = k; places = q }) }
+        → StepsLine K.shelf K.keeps K.strays limits (record { keeper = k; places = p }) (Backup s name config) (Refused fault.Memory) (record { keeper = k; places = q }) }
     ensures called { (limits : Limits) (k k' : K) (p m q : PlacesTold) (s : ℕ) (name : List ℕ) (config : JobConfig) (result : Result Answer Fault) (r r' : SourceTold) → AroundSource p m q name r r'
-        → BacksUpLine (K.keeps k) (K.keeps k') limits s config (K.shelf k) (K.shelf k') r r' result
-        → StepsLine K.shelf K.keeps limits (record { keeper = k; places = p }) (Backup s name config) (backup_answer q.read_faults result) (record { keeper = k'; places = q }) }
+        → BacksUpLine (K.keeps k) (K.keeps k') (K.strays k) (K.strays k') limits s config (K.shelf k) (K.shelf k') r r' result
+        → StepsLine K.shelf K.keeps K.strays limits (record { keeper = k; places = p }) (Backup s name config) (backup_answer q.read_faults result) (record { keeper = k'; places = q }) }
 {}
 
 /// A restore's line: refused where the version is not kept, where the sink could not be opened or where there was no
@@ -77,23 +84,23 @@ pub fn backups_are_lines<K: StateKeeper>()
 pub fn restores_are_lines<K: StateKeeper>()
     ensures not_kept { (limits : Limits) (k : K) (p : PlacesTold) (s v : ℕ) (name : List ℕ) (cache floor latest : ℕ) → ((S : State) (other : Option Change) → K.keeps k S other → false ≡ is_kept S s v)
         → ((S : State) (other : Option Change) → K.keeps k S other → floor ≡ floor_of S s) → ((S : State) (other : Option Change) → K.keeps k S other → latest ≡ latest_of S s)
-        → StepsLine K.shelf K.keeps limits (record { keeper = k; places = p }) (Restore s v name cache) (Refused (fault.NotKept s v floor latest)) (record { keeper = k; places = p }) }
+        → StepsLine K.shelf K.keeps K.strays limits (record { keeper = k; places = p }) (Restore s v name cache) (Refused (fault.NotKept s v floor latest)) (record { keeper = k; places = p }) }
     ensures not_opened { (limits : Limits) (k : K) (p q : PlacesTold) (s v : ℕ) (name : List ℕ) (cache : ℕ) → ((S : State) (other : Option Change) → K.keeps k S other → true ≡ is_kept S s v)
         → ChangesOnly p.files q.files name MayBeEmptied → q.read_faults ≡ p.read_faults → q.write_faults ≡ p.write_faults → Rose p.faults q.faults
-        → StepsLine K.shelf K.keeps limits (record { keeper = k; places = p }) (Restore s v name cache) (Refused (fault.PlaceFault q.faults)) (record { keeper = k; places = q }) }
+        → StepsLine K.shelf K.keeps K.strays limits (record { keeper = k; places = p }) (Restore s v name cache) (Refused (fault.PlaceFault q.faults)) (record { keeper = k; places = q }) }
     ensures no_memory { (limits : Limits) (k : K) (p q : PlacesTold) (s v : ℕ) (name : List ℕ) (cache : ℕ) → ((S : State) (other : Option Change) → K.keeps k S other → true ≡ is_kept S s v)
         → ChangesOnly p.files q.files name MayBeEmptied → q.read_faults ≡ p.read_faults → q.write_faults ≡ p.write_faults → p.faults ≤ q.faults
-        → StepsLine K.shelf K.keeps limits (record { keeper = k; places = p }) (Restore s v name cache) (Refused fault.Memory) (record { keeper = k; places = q }) }
+        → StepsLine K.shelf K.keeps K.strays limits (record { keeper = k; places = p }) (Restore s v name cache) (Refused fault.Memory) (record { keeper = k; places = q }) }
     ensures called { (limits : Limits) (k k' : K) (p m q : PlacesTold) (s v : ℕ) (name : List ℕ) (cache : ℕ) (result : Result Answer Fault) (w w' : SinkTold)
         → ((S : State) (other : Option Change) → K.keeps k S other → true ≡ is_kept S s v) → AroundSink p m q name w w'
-        → RestoresLine (K.keeps k) (K.keeps k') s v cache (K.shelf k) (K.shelf k') w w' result
-        → StepsLine K.shelf K.keeps limits (record { keeper = k; places = p }) (Restore s v name cache) (restore_answer q.write_faults result) (record { keeper = k'; places = q }) }
+        → RestoresLine (K.keeps k) (K.keeps k') (K.strays k) (K.strays k') s v cache (K.shelf k) (K.shelf k') w w' result
+        → StepsLine K.shelf K.keeps K.strays limits (record { keeper = k; places = p }) (Restore s v name cache) (restore_answer q.write_faults result) (record { keeper = k'; places = q }) }
 {}
 
 /// A deletion's line is what the call did, and leaves the places alone.
 pub fn deletions_are_lines<K: StateKeeper>()
-    ensures { (limits : Limits) (k k' : K) (p : PlacesTold) (s n : ℕ) (result : Result Answer Fault) → DeletesLine (K.keeps k) (K.keeps k') s n (K.shelf k) (K.shelf k') result
-        → StepsLine K.shelf K.keeps limits (record { keeper = k; places = p }) (Delete s n) (answer_of result) (record { keeper = k'; places = p }) }
+    ensures { (limits : Limits) (k k' : K) (p : PlacesTold) (s n : ℕ) (result : Result Answer Fault) → DeletesLine (K.keeps k) (K.keeps k') (K.strays k) (K.strays k') s n (K.shelf k) (K.shelf k') result
+        → StepsLine K.shelf K.keeps K.strays limits (record { keeper = k; places = p }) (Delete s n) (answer_of result) (record { keeper = k'; places = p }) }
 {}
 
 /// Numbers that rise below the last value of a `u64` ascend, so that none comes twice; and at most as many answers carry

@@ -1,6 +1,9 @@
+use Rattle.std.proofs.Common.{None}
 use Rattle.script_laws.specs.Leaves.{Begins}
+use Rattle.script_laws.specs.Strays.{StraysOf}
 use Rattle.run_laws.proofs.Earlier.{runs_opened}
 use Rattle.run_laws.proofs.openings_change_no_run.Goals as goal
 
 pub returns : goal.returns
-returns c = λ limits lines answers old opened new before now same runs. runs_opened limits lines answers old opened new before now (Begins old) (Begins old) same (λ S start. start) runs
+returns g c = λ limits lines answers old new k before now same told begins runs.
+    runs_opened limits lines answers old (g.K.StateKeeper.shelf k) new before now (λ S. g.K.StateKeeper.keeps k S None) (Begins old) (λ S. g.K.StateKeeper.strays k) (StraysOf old) same begins told runs

@@ -1,4 +1,5 @@
 use Rattle.std.proofs.Common.{◌⊎◌, inl, inr, ◌<◌, List, refl, sym, subst, ap, ◌∙◌, arith, length}
+use Rattle.std.specs.Prelude.{IsSome}
 use Rattle.vault_types.specs.declared.Pending.TheVariants.{Not}
 use Rattle.vault_types.specs.State.{latest_of}
 use Rattle.vault_types.specs.declared.Answer.TheVariants.{Removed}
@@ -192,3 +193,27 @@ returns-in-Ok-clause-acknowledged g c K keeps here =
     let first = c.mend_for.ensures.any_moment K sees now in
     let mid = mended_now K c.self.inside.pending _ _ (λ e. alone K k.core.other Not (sym k.pending ∙ e) not_failed) first (λ waits. c.in_ok-mend_for.ensures.acknowledged waits K sees k.held) in
     c.in-Ok.ensures.acknowledged (after_mend K.strays K) r k2.held mid
+
+pub returns-in_err-mend_for-clause-same : goal.returns-in_err-mend_for-clause-same
+returns-in_err-mend_for-clause-same g c = (ap (λ (v : View). v.job) c.self.view_is ∙ c.requires, ap (λ (v : View). v.pins) c.self.view_is)
+
+pub returns-in_err-mend_for-clause-memo : goal.returns-in_err-mend_for-clause-memo
+returns-in_err-mend_for-clause-memo g c = on_if c.from_residual.result _ (λ f. ap (λ (v : View). v.memo) c.self.view_is)
+
+pub returns-in_err-mend_for-clause-tells : goal.returns-in_err-mend_for-clause-tells
+returns-in_err-mend_for-clause-tells g c told = c.mend_for.ensures.tells (subst (λ (v : View). IsSome v.told.blobs) (sym c.self.view_is) told)
+
+pub returns-in-Ok-clause-same : goal.returns-in-Ok-clause-same
+returns-in-Ok-clause-same g c = (refl, ap (λ (v : View). v.pins) c.self.view_is)
+
+pub returns-in-Ok-clause-tells : goal.returns-in-Ok-clause-tells
+returns-in-Ok-clause-tells g c told = c.delete_versions.ensures.tells (c.mend_for.ensures.tells (subst (λ (v : View). IsSome v.told.blobs) (sym c.self.view_is) told))
+
+pub returns-in-Err-clause-same : goal.returns-in-Err-clause-same
+returns-in-Err-clause-same g c = (refl, ap (λ (v : View). v.pins) c.self.view_is)
+
+pub returns-in-Err-clause-memo : goal.returns-in-Err-clause-memo
+returns-in-Err-clause-memo g c = c.in-Err.ensures.as_before.0 ∙ ap (λ (v : View). v.memo) c.self.view_is
+
+pub returns-in-Err-clause-tells : goal.returns-in-Err-clause-tells
+returns-in-Err-clause-tells g c told = c.delete_versions.ensures.tells (c.mend_for.ensures.tells (subst (λ (v : View). IsSome v.told.blobs) (sym c.self.view_is) told))

@@ -1,0 +1,19 @@
+use Rattle.serial_delete.proofs.Deletes.{deletes}
+use Rattle.serial_delete.proofs.delete_plain.Goals as goal
+
+pub returns-clause-line : goal.returns-clause-line
+returns-clause-line g c = deletes _ _ _ _ _ (record {
+  core = c.keeps_some_core.ensures;
+  ok = c.delete_through.ensures.ok;
+  err = c.delete_through.ensures.err;
+  still = c.delete_through.ensures.still;
+  last = c.delete_through.ensures.last;
+  cause = c.delete_through.ensures.cause;
+  later = c.delete_through.ensures.later;
+  memo = c.delete_through.ensures.memo;
+  tells = c.delete_through.ensures.tells;
+  any_moment = c.delete_through.ensures.any_moment;
+  acknowledged = c.delete_through.ensures.acknowledged;
+  few = c.delete_through.ensures.few;
+  gets = c.delete_through.ensures.gets;
+})

@@ -72,7 +72,7 @@ module _ {Z : Type 0} (p : Pass) (r : Rules) (most first : ℕ) (x : List ℕ) (
       → OnOk result (q.count ≡ p.count + length vs) → (p.count ≤ p.limit → OnOk result (q.count ≤ p.limit))
       → OnOk result (HasPassed q r most first (x ++ piece) gone)
   fed q piece gone result chunks cut cutting summed limit placed count within = all_ok result placed count (within h.within) (λ one two three. record {
-    sized = h.sized;
+    cuttable = h.cuttable;
     chunks = h.chunks ++ more;
     cut = cut;
     cutting = cutting ∙ h.cutting;
@@ -83,9 +83,8 @@ module _ {Z : Type 0} (p : Pass) (r : Rules) (most first : ℕ) (x : List ℕ) (
     most_is = limit ∙ h.most_is;
   })
 
-  pub ended : filter is_chunk more ≡ more → (q : Placer) (gone : List Container) (total : List (List ℕ)) → h.chunks ++ more ≡ total
-      → HasPlaced q r first (map named_chunk h.chunks ++ map named_chunk (filter is_chunk (bytes_of_all vs))) gone → HasPlaced q r first (map named_chunk total) gone
-  ended chunks q gone total same placed = subst (λ cs. HasPlaced q r first (map named_chunk cs) gone) same (placed_is chunks q gone placed)
+  pub all_named : filter is_chunk more ≡ more → (total : List (List ℕ)) → h.chunks ++ more ≡ total → map named_chunk h.chunks ++ map named_chunk (filter is_chunk (bytes_of_all vs)) ≡ map named_chunk total
+  all_named chunks total same = ap (λ cs. map named_chunk h.chunks ++ map named_chunk (filter is_chunk cs)) given ∙ more_named h.chunks more chunks ∙ ap (map named_chunk) same
 
-  pub few_is : (total : List (List ℕ)) → h.chunks ++ more ≡ total → (n : ℕ) → n ≡ p.count + length vs → n ≤ p.limit → length total ≤ most
-  few_is total same n is below = let e : length (h.chunks ++ more) ≡ length total = ap length same in omega (arith, count_is, is, below, h.most_is, e)
+  pub few_is : (total : List (List ℕ)) → h.chunks ++ more ≡ total → p.count + length vs ≤ p.limit → length total ≤ most
+  few_is total same below = let e : length (h.chunks ++ more) ≡ length total = ap length same in omega (arith, count_is, below, h.most_is, e)

@@ -4,3 +4,4 @@ pub mod Filling
 pub mod Taking
 pub mod Sizes
 pub mod Feeding
+pub mod Ending

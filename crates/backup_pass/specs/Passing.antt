@@ -2,7 +2,7 @@
 use Rattle.std.specs.Prelude.{◌≡◌, ◌≤◌, ◌<◌, ℕ, List, map, length, Option, Vec}
 use Rattle.vault_types.specs.declared.Fp.{Fp}
 use Rattle.vault_types.specs.declared.Cutting.{Cutting}
-use Rattle.vault_types.specs.declared.Cutting.TheVariants.{Fixed}
+use Rattle.vault_types.specs.declared.Cutting.TheVariants.{Fixed, Ae}
 use Rattle.vault_types.specs.declared.Fault.{Fault}
 use Rattle.vault_types.specs.declared.Fault.TheVariants as fault
 use Rattle.vault_types.specs.Cuts.{HasCut}
@@ -10,15 +10,13 @@ use Rattle.vault_types.specs.Names.{named_chunk}
 use Rattle.vault_types.specs.Tables.{Container}
 use Rattle.vault_types.specs.Decide.{Rules}
 use Rattle.fingerprint_stage.specs.Sums.{HasSummed}
-use Rattle.backup_pass.specs.Placing.{HasPlaced, answers_of}
+use Rattle.backup_pass.specs.Placing.{HasPlaced, answers_of, index_of}
 use Rattle.backup_pass.specs.declared.pass.Pass.{Pass}
 
--- a cutting by a size of 1 to 65,536 bytes
-pub record IsSized (c : Cutting) : Type 0 where
-  pub size : ℕ
-  pub is : c ≡ Fixed size
-  pub low : 1 ≤ size
-  pub high : size ≤ 65536
+-- a cutting by a size of 1 to 65,536 bytes, or by a window of at least one byte below a greatest length of up to 65,536
+abbrev pub IsCuttable : Cutting → Type 0
+IsCuttable (Fixed size) = (1 ≤ size) × (size ≤ 65536)
+IsCuttable (Ae window most) = (1 ≤ window) × (window < most) × (most ≤ 65536)
 
 -- some vectors as lists
 abbrev pub bytes_of_all : {Z : Type 0} → List (Vec ℕ Z) → List (List ℕ)
@@ -30,6 +28,10 @@ IsPassFault limit count fault.Memory = Unit {0}
 IsPassFault limit count (fault.TooMany n) = (n ≡ limit) × (limit < count)
 IsPassFault limit count other = ⊥
 
+-- the index that was lent to the pass
+abbrev pub index_in : Pass → List (Fp × List ℕ)
+index_in p = index_of p.placer
+
 -- the answers of the pass's index
 abbrev pub answers_in : Pass → Fp → Option ℕ
 answers_in p = answers_of p.placer
@@ -37,7 +39,7 @@ answers_in p = answers_of p.placer
 -- the pass was fed the bytes x by these rules, with this limit, its first container has the id first, and it gave these
 -- containers out
 pub record HasPassed (p : Pass) (r : Rules) (most first : ℕ) (x : List ℕ) (gone : List Container) : Type 0 where
-  pub sized : IsSized r.config.cutting
+  pub cuttable : IsCuttable r.config.cutting
   pub chunks : List (List ℕ)
   pub cut : HasCut p.chunker chunks x
   pub cutting : p.chunker.cutting ≡ r.config.cutting

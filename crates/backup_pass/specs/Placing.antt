@@ -37,9 +37,13 @@ joined segments = flat_map (λ s. s) segments
 abbrev pub places_in : (Fp → Option ℕ) → Rules → List (List NamedChunk) → List (Fp × How)
 places_in find r done = decisions r [] (map (map (look_up find)) done)
 
+-- the index that was lent to the placer
+abbrev pub index_of : Placer → List (Fp × List ℕ)
+index_of p = p.decider.index
+
 -- the answers of the placer's index
 abbrev pub answers_of : Placer → Fp → Option ℕ
-answers_of p f = found_in p.decider.index f
+answers_of p f = found_in (index_of p) f
 
 -- the placer took these chunks by these rules, its first container has the id first, and it gave these containers out
 pub record HasPlaced (p : Placer) (r : Rules) (first : ℕ) (chunks : List NamedChunk) (gone : List Container) : Type 0 where

@@ -3,6 +3,7 @@
 //! rows of the version.
 #![tactic(auto)]
 
+mod cutter;
 mod pass;
 mod placer;
 #[cfg(test)]

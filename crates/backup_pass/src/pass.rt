@@ -1,6 +1,5 @@
 // A pass over a stream.
 ghost use Rattle.std.specs.Prelude.{◌≡◌, ◌≤◌, ◌<◌, ◌+◌, ◌^◌, List, ℕ, OnOk, IfOk, IfErr, map, filter, length, option_to_list, [], ◌∷◌, ◌++◌};
-ghost use Rattle.vault_types.specs.declared.Cutting.TheVariants as cutting;
 ghost use Rattle.vault_types.specs.Cuts.{cuts, settled};
 ghost use Rattle.vault_types.specs.Names.{NamedChunk, named_chunk, fp};
 ghost use Rattle.vault_types.specs.Tables.{Container};
@@ -9,22 +8,22 @@ ghost use Rattle.vault_types.specs.Fill.{fill};
 ghost use Rattle.vault_types.specs.Stages.{is_chunk};
 ghost use Rattle.fp_index.specs.Index.{found_in};
 ghost use Rattle.container_fill.specs.Filling.{IsFilledBy};
-ghost use Rattle.backup_pass.specs.Placing.{HasPlaced, answers_of};
-ghost use Rattle.backup_pass.specs.Passing.{HasPassed, IsPassFault, answers_in, bytes_of_all};
+ghost use Rattle.backup_pass.specs.Placing.{HasPlaced, answers_of, index_of};
+ghost use Rattle.backup_pass.specs.Passing.{HasPassed, IsCuttable, IsPassFault, answers_in, index_in, bytes_of_all};
 
 use crate::Placer;
-use chunk_fixed::Fixed;
+use crate::cutter::Cutter;
 use container_fill::Filled;
 use container_store::Sealed;
 use fingerprint_stage::{Chunk, RunningSum, name};
 use fp_index::Index;
 use std::alloc::Global;
-use vault_types::{Fault, Fp, Id, JobConfig};
+use vault_types::{Fault, Fp, Id, JobConfig, Memory};
 
-/// A backup's pass over its stream, for chunks of a fixed size.
+/// A backup's pass over its stream.
 #[derive(Drop)]
 pub struct Pass {
-    chunker: Fixed,
+    chunker: Cutter,
     sum: RunningSum,
     count: u32,
     limit: u32,
@@ -72,7 +71,7 @@ fn place_all(
     ensures placed { (r : Rules) (first : ℕ) (taken : List NamedChunk) (gone : List Container)
         → HasPlaced placer.old r first taken (gone ++ out.old.items)
         → OnOk result (HasPlaced placer.new r first (taken ++ map named_chunk (filter is_chunk (bytes_of_all chunks.items))) (gone ++ out.new.items)) }
-    ensures answers { answers_of placer.new ≡ answers_of placer.old }
+    ensures index { index_of placer.new ≡ index_of placer.old }
     ensures count { OnOk result (count.new ≡ count.old + length chunks.items) }
     ensures within { count.old ≤ limit → OnOk result (count.new ≤ limit) }
     ensures causes { IfErr result (IsPassFault limit (count.old + length chunks.items)) }
@@ -87,30 +86,58 @@ fn place_all(
     Ok(())
 }
 
+// Places the last chunks, and ends the placer, which gives its index back.
+fn place_last(
+    alloc: Global,
+    placer: Placer,
+    mut count: u32,
+    limit: u32,
+    chunks: Vec<Vec<u8>>,
+    out: &mut Vec<Sealed>,
+) -> (Index, Result<Filled, Fault>)
+    ensures index { result.0 ≡ index_of placer }
+    ensures filled { (r : Rules) (first : ℕ) (taken : List NamedChunk) (gone : List Container)
+        → HasPlaced placer r first taken (gone ++ out.old.items)
+        → IfOk result.1 (λ f. IsFilledBy (option_to_list f.last) f.rows f.next f.containers f.written first (gone ++ out.new.items) (length (taken ++ map named_chunk (filter is_chunk (bytes_of_all chunks.items))))
+        (fill first (taken ++ map named_chunk (filter is_chunk (bytes_of_all chunks.items))) (decide (answers_of placer) r (taken ++ map named_chunk (filter is_chunk (bytes_of_all chunks.items)))) r.config.container)) }
+    ensures within { count ≤ limit → OnOk result.1 (count + length chunks.items ≤ limit) }
+    ensures causes { IfErr result.1 (IsPassFault limit (count + length chunks.items)) }
+{
+    let mut placer = placer;
+    match place_all(alloc, &mut placer, &mut count, limit, chunks, out) {
+        Err(fault) => (placer.end(), Err(fault)),
+        Ok(()) => {
+            let (index, filled) = placer.finish(alloc, out);
+            match filled {
+                Ok(filled) => (index, Ok(filled)),
+                Err(Memory) => (index, Err(Fault::Memory)),
+            }
+        }
+    }
+}
+
 impl Pass {
-    /// A pass that was fed nothing, for at most `limit` chunks. The size is from 1 to 65,536, the next free container id
-    /// from 1 to 2^63, the container size from 1 to 4,194,304.
+    /// A pass that was fed nothing, for at most `limit` chunks. It cuts by a size from 1 to 65,536, or by a window from 1
+    /// below a greatest length up to 65,536; the next free container id is from 1 to 2^63, the container size from 1 to
+    /// 4,194,304.
     pub fn new(
         alloc: Global,
         index: Index,
         sparse: Vec<Id>,
         next: Id,
-        size: u32,
         config: JobConfig,
         limit: u32,
     ) -> Pass
-        requires sized { config.cutting ≡ cutting.Fixed size }
-        requires size_low { 1 ≤ size }
-        requires size_high { size ≤ 65536 }
+        requires cuttable { IsCuttable config.cutting }
         requires low { 1 ≤ next }
         requires high { next ≤ 2 ^ 63 }
         requires some { 1 ≤ config.container }
         requires most { config.container ≤ 4194304 }
         ensures passed { HasPassed result (record { sparse = sparse.items; config = config }) limit next [] [] }
-        ensures answers { answers_in result ≡ found_in index }
+        ensures index { index_in result ≡ index }
     {
         Pass {
-            chunker: Fixed::new(size),
+            chunker: Cutter::new(config.cutting),
             sum: RunningSum::new(),
             count: 0,
             limit,
@@ -119,12 +146,12 @@ impl Pass {
     }
 
     /// Takes the next piece of the stream. Containers that are full are appended to `out`. `TooMany`, `Memory`; after an
-    /// `Err` the pass is only dropped.
+    /// `Err` only `end` may be called.
     pub fn feed(&mut self, alloc: Global, piece: &[u8], out: &mut Vec<Sealed>) -> Result<(), Fault>
         ensures passed { (r : Rules) (limit first : ℕ) (x : List ℕ) (gone : List Container)
             → HasPassed self.old r limit first x (gone ++ out.old.items)
             → OnOk result (HasPassed self.new r limit first (x ++ piece.now) (gone ++ out.new.items)) }
-        ensures answers { answers_in self.new ≡ answers_in self.old }
+        ensures index { index_in self.new ≡ index_in self.old }
         ensures causes { (r : Rules) (limit first : ℕ) (x : List ℕ) (gone : List Container)
             → HasPassed self.old r limit first x gone → IfErr result (IsPassFault limit (length (settled (x ++ piece.now) r.config.cutting))) }
     {
@@ -141,34 +168,46 @@ impl Pass {
         )
     }
 
-    /// Takes the end of the stream: all containers are those before, those in `out` and the last one of `filled`.
-    /// `TooMany`, `Memory`.
-    pub fn finish(self, alloc: Global, out: &mut Vec<Sealed>) -> Result<Passed, Fault>
+    /// Takes the end of the stream, and gives the index back: all containers are those before, those in `out` and the
+    /// last one of `filled`. `TooMany`, `Memory`.
+    pub fn finish(self, alloc: Global, out: &mut Vec<Sealed>) -> (Index, Result<Passed, Fault>)
+        ensures index { result.0 ≡ index_in self }
         ensures passed { (r : Rules) (limit first : ℕ) (x : List ℕ) (gone : List Container)
             → HasPassed self r limit first x (gone ++ out.old.items)
-            → IfOk result (λ p. (p.whole ≡ fp x) × (length (cuts x r.config.cutting) ≤ limit)
+            → IfOk result.1 (λ p. (p.whole ≡ fp x) × (length (cuts x r.config.cutting) ≤ limit)
             × IsFilledBy (option_to_list p.filled.last) p.filled.rows p.filled.next p.filled.containers p.filled.written first (gone ++ out.new.items) (length (map named_chunk (cuts x r.config.cutting)))
             (fill first (map named_chunk (cuts x r.config.cutting)) (decide (answers_in self) r (map named_chunk (cuts x r.config.cutting))) r.config.container)) }
         ensures causes { (r : Rules) (limit first : ℕ) (x : List ℕ) (gone : List Container)
-            → HasPassed self r limit first x gone → IfErr result (IsPassFault limit (length (cuts x r.config.cutting))) }
+            → HasPassed self r limit first x gone → IfErr result.1 (IsPassFault limit (length (cuts x r.config.cutting))) }
     {
         let Pass {
             chunker,
             sum,
-            mut count,
+            count,
             limit,
-            mut placer,
+            placer,
         } = self;
         let mut chunks = Vec::new(alloc);
-        chunker.finish(&mut chunks)?;
-        match place_all(alloc, &mut placer, &mut count, limit, chunks, out) {
-            Ok(()) => {}
-            Err(fault) => return Err(fault),
+        match chunker.finish(&mut chunks) {
+            Err(Memory) => (placer.end(), Err(Fault::Memory)),
+            Ok(()) => {
+                let (index, filled) = place_last(alloc, placer, count, limit, chunks, out);
+                match filled {
+                    Err(fault) => (index, Err(fault)),
+                    Ok(filled) => {
+                        let whole = sum.finish();
+                        (index, Ok(Passed { filled, whole }))
+                    }
+                }
+            }
         }
-        let filled = placer.finish(alloc, out)?;
-        Ok(Passed {
-            filled,
-            whole: sum.finish(),
-        })
+    }
+
+    /// The index as it was handed in.
+    pub fn end(self) -> Index
+        ensures { result ≡ index_in self }
+    {
+        let Pass { placer, .. } = self;
+        placer.end()
     }
 }

@@ -6,10 +6,9 @@ ghost use Rattle.vault_types.specs.Names.{NamedChunk, named_chunk};
 ghost use Rattle.vault_types.specs.Tables.{Container};
 ghost use Rattle.vault_types.specs.Decide.{Rules, decide, decisions_of};
 ghost use Rattle.vault_types.specs.Fill.{fill};
-ghost use Rattle.fp_index.specs.Index.{found_in};
 ghost use Rattle.rewrite_stage.specs.Deciding.{HasDecided, looked_up};
 ghost use Rattle.container_fill.specs.Filling.{HasFilled, IsFilledBy};
-ghost use Rattle.backup_pass.specs.Placing.{HasPlaced, chunk_in, hows_of, hows_at, answers_of};
+ghost use Rattle.backup_pass.specs.Placing.{HasPlaced, chunk_in, hows_of, hows_at, answers_of, index_of};
 
 use container_fill::{Filled, Filler};
 use container_store::Sealed;
@@ -80,7 +79,7 @@ impl Placer {
         requires some { 1 ≤ config.container }
         requires most { config.container ≤ 4194304 }
         ensures placed { HasPlaced result (record { sparse = sparse.items; config = config }) next [] [] }
-        ensures answers { answers_of result ≡ found_in index }
+        ensures index { index_of result ≡ index }
     {
         Placer {
             segmenter: Segmenter::new(config.segment),
@@ -90,12 +89,13 @@ impl Placer {
         }
     }
 
-    /// Takes the next chunk. Containers that are full are appended to `out`. After `Memory` the placer is only dropped.
+    /// Takes the next chunk. Containers that are full are appended to `out`. After `Memory`
+    /// only `end` may be called.
     pub fn take(&mut self, alloc: Global, chunk: Chunk, out: &mut Vec<Sealed>) -> Result<(), Memory>
         ensures placed { (r : Rules) (first : ℕ) (chunks : List NamedChunk) (gone : List Container)
             → HasPlaced self.old r first chunks (gone ++ out.old.items)
             → OnOk result (HasPlaced self.new r first (chunks ++ named_chunk chunk ∷ []) (gone ++ out.new.items)) }
-        ensures answers { answers_of self.new ≡ answers_of self.old }
+        ensures index { index_of self.new ≡ index_of self.old }
     {
         match self.segmenter.push(chunk.len()) {
             Cut::Same => {
@@ -111,11 +111,13 @@ impl Placer {
         }
     }
 
-    /// Decides and fills what is left. All containers are those before, those in `out` and the last one.
-    pub fn finish(self, alloc: Global, out: &mut Vec<Sealed>) -> Result<Filled, Memory>
-        ensures { (r : Rules) (first : ℕ) (chunks : List NamedChunk) (gone : List Container)
+    /// Decides and fills what is left, and gives the index back. All containers are those before, those in `out` and the
+    /// last one.
+    pub fn finish(self, alloc: Global, out: &mut Vec<Sealed>) -> (Index, Result<Filled, Memory>)
+        ensures index { result.0 ≡ index_of self }
+        ensures filled { (r : Rules) (first : ℕ) (chunks : List NamedChunk) (gone : List Container)
             → HasPlaced self r first chunks (gone ++ out.old.items)
-            → IfOk result (λ f. IsFilledBy (option_to_list f.last) f.rows f.next f.containers f.written first (gone ++ out.new.items) (length chunks)
+            → IfOk result.1 (λ f. IsFilledBy (option_to_list f.last) f.rows f.next f.containers f.written first (gone ++ out.new.items) (length chunks)
             (fill first chunks (decide (answers_of self) r chunks) r.config.container)) }
     {
         let Placer {
@@ -124,7 +126,17 @@ impl Placer {
             mut decider,
             mut filler,
         } = self;
-        place_segment(alloc, &mut decider, &mut filler, segment, out)?;
-        filler.finish()
+        match place_segment(alloc, &mut decider, &mut filler, segment, out) {
+            Err(Memory) => (decider.end(), Err(Memory)),
+            Ok(()) => (decider.end(), filler.finish()),
+        }
+    }
+
+    /// The index as it was handed in.
+    pub fn end(self) -> Index
+        ensures { result ≡ index_of self }
+    {
+        let Placer { decider, .. } = self;
+        decider.end()
     }
 }

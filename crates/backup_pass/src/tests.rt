@@ -102,18 +102,43 @@ fn expect_capped(
 fn a_stream_becomes_a_container_and_rows(rt: HostRuntime) -> Result<(), Fail> {
     let alloc = rt.alloc();
     let index = Index::from_tables(alloc, &[])?;
-    let mut pass = Pass::new(alloc, index, Vec::new(alloc), 1, 4, settings(), 3);
+    let mut pass = Pass::new(alloc, index, Vec::new(alloc), 1, settings(), 3);
     let mut out = Vec::new(alloc);
     pass.feed(alloc, b"abcda", &mut out)?;
     pass.feed(alloc, b"bcdab", &mut out)?;
-    let passed = pass.finish(alloc, &mut out)?;
-    let filled = passed.filled;
+    let (_, passed) = pass.finish(alloc, &mut out);
+    let filled = passed?.filled;
     assert_eq!(rt; out.len(), 0);
     assert_eq!(rt; filled.rows.as_slice().len(), 3);
     assert_eq!(rt; filled.containers, 1);
     assert_eq!(rt; filled.written, 6);
     let last = filled.last.ok_or("no container")?;
     assert_eq!(rt; last.payload(), b"abcdab".as_slice());
+    Ok(())
+}
+
+// Chunks end a byte behind an extremum, and at four bytes.
+fn extremum() -> JobConfig
+    ensures cutting { result.cutting ≡ Cutting.Ae 1 4 }
+    ensures container { result.container ≡ 4194304 }
+{
+    let mut config = JobConfig::standard();
+    config.cutting = Cutting::Ae { window: 1, max: 4 };
+    config
+}
+
+#[test]
+fn a_stream_is_cut_by_extremum(rt: HostRuntime) -> Result<(), Fail> {
+    let alloc = rt.alloc();
+    let index = Index::from_tables(alloc, &[])?;
+    let mut pass = Pass::new(alloc, index, Vec::new(alloc), 1, extremum(), 3);
+    let mut out = Vec::new(alloc);
+    pass.feed(alloc, b"aaaaa", &mut out)?;
+    pass.feed(alloc, b"aaa", &mut out)?;
+    let (_, passed) = pass.finish(alloc, &mut out);
+    let filled = passed?.filled;
+    assert_eq!(rt; filled.rows.as_slice().len(), 2);
+    assert_eq!(rt; filled.written, 4);
     Ok(())
 }
 
@@ -128,7 +153,7 @@ fn a_capped_backup_writes_again_what_it_does_not_keep(rt: HostRuntime) -> Result
 fn more_chunks_than_the_limit_are_refused(rt: HostRuntime) -> Result<(), Fail> {
     let alloc = rt.alloc();
     let index = Index::from_tables(alloc, &[])?;
-    let mut pass = Pass::new(alloc, index, Vec::new(alloc), 1, 4, settings(), 2);
+    let mut pass = Pass::new(alloc, index, Vec::new(alloc), 1, settings(), 2);
     let mut out = Vec::new(alloc);
     assert_eq!(rt;
         pass.feed(alloc, b"aaaabbbbcccc", &mut out),

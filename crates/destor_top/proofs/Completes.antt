@@ -5,7 +5,6 @@ use Rattle.std.specs.Option.{option_map}
 use Rattle.std.proofs.lemmas.Bool.Decides.{nat_tests}
 use Rattle.std.proofs.lemmas.List.{append-nil}
 use Rattle.vault_types.specs.declared.Cutting.{Cutting}
-use Rattle.vault_types.specs.declared.Cutting.TheVariants.{Fixed}
 use Rattle.vault_types.specs.declared.JobConfig.{JobConfig}
 use Rattle.vault_types.specs.declared.Limits.{Limits}
 use Rattle.vault_types.specs.declared.Fault.{Fault}
@@ -16,41 +15,23 @@ use Rattle.vault_types.specs.Shelf.{Blobs}
 use Rattle.vault_types.specs.Lists.{parts, rest}
 use Rattle.vault_types.specs.Cuts.{cuts, settled, settled_len, unsettled, only_bytes}
 use Rattle.vault_types.specs.Backup.{stored}
-use Rattle.vault_types.proofs.PartsLemmas.{IsStable, parts-append}
+use Rattle.vault_types.proofs.PartsLemmas.{parts-append}
 use Rattle.vault_traits.specs.Counts.{Rose}
 use Rattle.vault_traits.specs.Told.{ShelfTold, SourceTold, SinkTold}
+use Rattle.backup_pass.specs.Passing.{IsCuttable}
+use Rattle.backup_pass.proofs.Sizes.{stable}
 use Rattle.first_backup.specs.Backup.{nothing, IsNumber, IsBare, IsInRange, IsBackupFault, BacksUp}
 use Rattle.destor_top.specs.World.{World, IsPrinted, report_text}
 use Rattle.destor_top.specs.Run.{backup_of, answer_of, IsEarlyFault, EndsEarly, RunsBackup, IsRun, NoneRose, IsComplete}
 use Rattle.destor_top.proofs.Ranges.{asked_in_range}
 
--- chunks of a fixed size
-
-some_fixed : (size : ℕ) (x : List ℕ) (k : ℕ) (b : Bool) → nat_le size (length x) ≡ b → cond b (Some size) None ≡ Some k → (size ≡ k) × (size ≤ length x)
-some_fixed size x k true f e = (cc, grind (arith, nat_tests))
-some_fixed size x k false f e = let clash : ◌≡◌ {A = Option ℕ} None (Some k) = e in cc
-
-fixed_stable : (size : ℕ) → 1 ≤ size → IsStable (settled_len (Fixed size))
-fixed_stable size h = record {
-  rule = record {
-    nothing = let no : nat_le size 0 ≡ false = grind (arith, nat_tests) in rw no;
-    some = λ x k e. let s : (size ≡ k) × (size ≤ length x) = some_fixed size x k _ refl e in omega arith;
-  };
-  same = λ x y k e.
-      let s : (size ≡ k) × (size ≤ length x) = some_fixed size x k _ refl e in
-      let len : length (x ++ y) ≡ length x + length y = length-append x y in
-      let yes : nat_le size (length (x ++ y)) ≡ true = grind (arith, nat_tests) in
-      rw yes (ap Some s.0);
-  within = λ x k e. let s : (size ≡ k) × (size ≤ length x) = some_fixed size x k _ refl e in omega arith;
-}
-
 -- the settled chunks of a front are no more than the chunks of the whole
-settled_few : (size : ℕ) → 1 ≤ size → (x y : List ℕ) → length (settled x (Fixed size)) ≤ length (cuts (x ++ y) (Fixed size))
-settled_few size h x y =
-    let len = settled_len (Fixed size) in
-    let all : settled (x ++ y) (Fixed size) ≡ settled x (Fixed size) ++ parts len (rest len x ++ y) = parts-append len (fixed_stable size h) x y in
-    let front : length (settled (x ++ y) (Fixed size)) ≡ length (settled x (Fixed size)) + length (parts len (rest len x ++ y)) = ap length all ∙ length-append (settled x (Fixed size)) (parts len (rest len x ++ y)) in
-    let whole : length (cuts (x ++ y) (Fixed size)) ≡ length (settled (x ++ y) (Fixed size)) + length (only_bytes (unsettled (x ++ y) (Fixed size))) = length-append (settled (x ++ y) (Fixed size)) (only_bytes (unsettled (x ++ y) (Fixed size))) in
+settled_few : (c : Cutting) → IsCuttable c → (x y : List ℕ) → length (settled x c) ≤ length (cuts (x ++ y) c)
+settled_few c can x y =
+    let len = settled_len c in
+    let all : settled (x ++ y) c ≡ settled x c ++ parts len (rest len x ++ y) = parts-append len (stable c can) x y in
+    let front : length (settled (x ++ y) c) ≡ length (settled x c) + length (parts len (rest len x ++ y)) = ap length all ∙ length-append (settled x c) (parts len (rest len x ++ y)) in
+    let whole : length (cuts (x ++ y) c) ≡ length (settled (x ++ y) c) + length (only_bytes (unsettled (x ++ y) c)) = length-append (settled (x ++ y) c) (only_bytes (unsettled (x ++ y) c)) in
     omega arith
 
 -- a count that is where it was did not rise
@@ -71,12 +52,11 @@ front_read : (x read : List ℕ) (left : Option (List ℕ)) → Some x ≡ optio
 front_read x read None given = let clash : ◌≡◌ {A = Option (List ℕ)} (Some x) None = given in cc
 front_read x read (Some y) given = (y, cc)
 
-module _ (s size : ℕ) (positive : 1 ≤ size) (config : JobConfig) (fixed : config.cutting ≡ Fixed size) (limits : Limits) (x : List ℕ) (few : length (cuts x config.cutting) ≤ limits.chunks) where
+module _ (s : ℕ) (config : JobConfig) (can : IsCuttable config.cutting) (limits : Limits) (x : List ℕ) (few : length (cuts x config.cutting) ≤ limits.chunks) where
   not_settled : (read y : List ℕ) → x ≡ read ++ y → limits.chunks < length (settled read config.cutting) → ⊥
   not_settled read y is more =
-      let more' : limits.chunks < length (settled read (Fixed size)) = subst (λ (c : Cutting). limits.chunks < length (settled read c)) fixed more in
-      let few' : length (cuts (read ++ y) (Fixed size)) ≤ limits.chunks = subst (λ (z : List ℕ). length (cuts z (Fixed size)) ≤ limits.chunks) is (subst (λ (c : Cutting). length (cuts x c) ≤ limits.chunks) fixed few) in
-      omega (arith, settled_few size positive read y)
+      let few' : length (cuts (read ++ y) config.cutting) ≤ limits.chunks = subst (λ (z : List ℕ). length (cuts z config.cutting) ≤ limits.chunks) is few in
+      omega (arith, settled_few config.cutting can read y)
 
   not_cut : (read : List ℕ) → read ≡ x → limits.chunks < length (cuts read config.cutting) → ⊥
   not_cut read is more =
@@ -160,7 +140,7 @@ module _ (words : List (List ℕ)) (limits : Limits) (before now : World) (answe
       ⊎_elim
       (λ e. inl (r.answered ∙ ap (λ (a : Answer). a ∷ []) e, all_printed (report_text answers) before.out now.out f well.out_below well.out r.printed))
       (λ e. inr (r.answered ∙ ap (λ (a : Answer). a ∷ []) e))
-      (answered s range.cutting.size range.cutting.low config range.cutting.is limits x few r.shelf now.shelf before.input now.input r.result left shelf source r.backs_up)
+      (answered s config range.cutting limits x few r.shelf now.shelf before.input now.input r.result left shelf source r.backs_up)
 
   pub completes : (status : ℕ) → IsRun words limits before now answers f status → IsComplete words limits before now answers f
   completes status run s config x asks bare left well few =

@@ -1,5 +1,5 @@
 -- The settings of a backup that words ask for are in their ranges.
-use Rattle.std.proofs.Common.{◌≡◌, ◌≤◌, ℕ, Bool, true, false, not, cond, ◌&&◌, ◌||◌, ◌++◌, nat_le, List, [], ◌∷◌, Option, Some, None, unwrap_or, codes, inl, inr, refl, ap, sym, subst, arith, ◌∙◌}
+use Rattle.std.proofs.Common.{◌≡◌, ◌≤◌, ◌<◌, ℕ, Bool, true, false, not, cond, ◌&&◌, ◌||◌, ◌++◌, nat_le, nat_lt, List, [], ◌∷◌, Option, Some, None, unwrap_or, codes, inl, inr, refl, ap, sym, subst, arith, ◌∙◌}
 use Rattle.std.specs.List.{list_all, list_any}
 use Rattle.std.specs.Str.{bytes_eq}
 use Rattle.std.specs.Option.{option_and_then}
@@ -8,10 +8,12 @@ use Rattle.std.proofs.lemmas.Bool.{and_parts, or_cases, cases_Bool, leb-true, fa
 use Rattle.vault_types.specs.declared.JobConfig.{JobConfig}
 use Rattle.vault_types.specs.declared.Command.{Command}
 use Rattle.vault_types.specs.declared.Cutting.TheVariants.{Fixed, Ae}
-use Rattle.vault_types.specs.Words.{Allowed, Number, Word, Kinds, Settings, number, number_in, in_range, is_allowed, is_value, allows, are_allowed, names_differ, set_kind, job_kinds, queue_kinds, sample_kinds, version_kind, cache_kind, area_kind, workers_kind, job_agrees, sample_agrees, sample_in, set_in, queue_in, lanes_in, config_in, is_word, always, has_value, area_agrees, backup_command, restore_command, delete_command, show_command, batch_command, fill_command, scrub_command, command_with, settings_of}
+use Rattle.vault_types.specs.Words.{Allowed, Number, Word, Kinds, Settings, number, number_in, in_range, is_allowed, is_value, allows, are_allowed, names_differ, set_kind, job_kinds, queue_kinds, sample_kinds, version_kind, cache_kind, area_kind, workers_kind, agrees, job_agrees, sample_agrees, sample_in, set_in, queue_in, lanes_in, config_in, is_word, always, has_value, area_agrees, backup_command, restore_command, delete_command, show_command, batch_command, fill_command, scrub_command, command_with, settings_of}
 use Rattle.vault_types.specs.declared.Command.TheVariants as command
+use Rattle.std.proofs.lemmas.Bool.Decides.{nat_tests}
+use Rattle.backup_pass.specs.Passing.{IsCuttable}
 use Rattle.first_backup.specs.Backup.{IsInRange}
-use Rattle.destor_top.specs.Run.{with_cutting, backup_in, backup_of}
+use Rattle.destor_top.specs.Run.{backup_in, backup_of}
 
 -- a number in a range, as two orders
 abbrev IsWithin : ℕ → ℕ → ℕ → Type 0
@@ -76,8 +78,24 @@ module _ (s : Settings) (each : list_all (allows backup_kinds) s ≡ true) where
   container_within : IsWithin 1 4194304 (number_in s (codes "container") 4194304)
   container_within = settings_within backup_kinds s (codes "container") 1 4194304 4194304 refl (omega arith, omega arith) each
 
-  fixed_in_range : is_word s (codes "chunk") (codes "fixed") ≡ true → IsInRange (config_in s)
-  fixed_in_range e = record { cutting = rw e (record { size = number_in s (codes "size") 4096; is = refl; low = size_within.0; high = size_within.1 }); container_low = container_within.0; container_high = container_within.1 }
+  window_within : IsWithin 1 65535 (number_in s (codes "window") 4096)
+  window_within = settings_within backup_kinds s (codes "window") 1 65535 4096 refl (omega arith, omega arith) each
+
+  max_within : IsWithin 2 65536 (number_in s (codes "max") 65536)
+  max_within = settings_within backup_kinds s (codes "max") 2 65536 65536 refl (omega arith, omega arith) each
+
+  cuttable : (t : Bool) (container : ℕ) → agrees (cond t (Fixed (number_in s (codes "size") 4096)) (Ae (number_in s (codes "window") 4096) (number_in s (codes "max") 65536))) container ≡ true
+      → IsCuttable (cond t (Fixed (number_in s (codes "size") 4096)) (Ae (number_in s (codes "window") 4096) (number_in s (codes "max") 65536)))
+  cuttable true container e = size_within
+  cuttable false container e =
+      let both = and_parts (nat_lt (number_in s (codes "window") 4096) (number_in s (codes "max") 65536)) (nat_le (number_in s (codes "max") 65536) container) e in
+      (window_within.0, less (number_in s (codes "window") 4096) (number_in s (codes "max") 65536) both.0, max_within.1)
+    where
+      less : (m n : ℕ) → nat_lt m n ≡ true → m < n
+      less m n h = grind (arith, nat_tests)
+
+  in_range_all : job_agrees s ≡ true → IsInRange (config_in s)
+  in_range_all e = record { cutting = cuttable (is_word s (codes "chunk") (codes "fixed")) (number_in s (codes "container") 4194304) e; container_low = container_within.0; container_high = container_within.1 }
 
 -- no backup, and so nothing to show
 abbrev Asked : Option Command → ℕ × JobConfig → Type 0
@@ -93,20 +111,15 @@ other false c b is e = none_asked b e
 some_config : (b c : ℕ × JobConfig) → Some b ≡ Some c → b.1 ≡ c.1
 some_config b c e = let same : b ≡ c = cc in ap (λ (p : ℕ × JobConfig). p.1) same
 
-of_word : (s : Settings) (b : ℕ × JobConfig) (t : Bool) → list_all (allows backup_kinds) s ≡ true → is_word s (codes "chunk") (codes "fixed") ≡ t
-    → with_cutting (cond t (Fixed (number_in s (codes "size") 4096)) (Ae (number_in s (codes "window") 4096) (number_in s (codes "max") 65536))) (set_in s) (config_in s) ≡ Some b → IsInRange b.1
-of_word s b true each w e = subst IsInRange (some_config (set_in s, config_in s) b e) (fixed_in_range s each w)
-of_word s b false each w e = absurd (none_asked b e)
-
-of_sample : (s : Settings) (b : ℕ × JobConfig) (o : Option (ℕ × ℕ)) → list_all (allows backup_kinds) s ≡ true → backup_in (command.Backup (set_in s) (config_in s) (queue_in s) (lanes_in s) o) ≡ Some b → IsInRange b.1
-of_sample s b (Some p) each e = absurd (none_asked b e)
-of_sample s b None each e = of_word s b (is_word s (codes "chunk") (codes "fixed")) each refl e
+of_sample : (s : Settings) (b : ℕ × JobConfig) (o : Option (ℕ × ℕ)) → list_all (allows backup_kinds) s ≡ true → job_agrees s ≡ true → backup_in (command.Backup (set_in s) (config_in s) (queue_in s) (lanes_in s) o) ≡ Some b → IsInRange b.1
+of_sample s b (Some p) each fits e = absurd (none_asked b e)
+of_sample s b None each fits e = subst IsInRange (some_config (set_in s, config_in s) b e) (in_range_all s each fits)
 
 of_backup : (s : Settings) (b : ℕ × JobConfig) (t : Bool) → (are_allowed backup_kinds s && (job_agrees s && sample_agrees s)) ≡ t → Asked (cond t (Some (backup_command s)) None) b → IsInRange b.1
 of_backup s b false is e = absurd (none_asked b e)
 of_backup s b true is e =
-    let allowed = (and_parts (are_allowed backup_kinds s) (job_agrees s && sample_agrees s) is).0 in
-    of_sample s b (sample_in s) (and_parts (names_differ s) (list_all (allows backup_kinds) s) allowed).1 e
+    let both = and_parts (are_allowed backup_kinds s) (job_agrees s && sample_agrees s) is in
+    of_sample s b (sample_in s) (and_parts (names_differ s) (list_all (allows backup_kinds) s) both.0).1 (and_parts (job_agrees s) (sample_agrees s) both.1).0 e
 
 either : (t : Bool) (x y : Option Command) (b : ℕ × JobConfig) → (Asked x b → IsInRange b.1) → (Asked y b → IsInRange b.1) → Asked (cond t x y) b → IsInRange b.1
 either true x y b one two e = one e

@@ -1,8 +1,6 @@
 -- A run of the program's words over an empty store.
 use Rattle.std.specs.Prelude.{◌≡◌, ◌⊎◌, ◌≤◌, ◌<◌, ◌-◌, ◌^◌, length, ℕ, List, [], ◌∷◌, Option, Some, None, IfSome, IsSome, IsSomeAnd, Result, Ok, Err}
 use Rattle.std.specs.Option.{option_and_then}
-use Rattle.vault_types.specs.declared.Cutting.TheVariants.{Fixed, Ae}
-use Rattle.vault_types.specs.declared.Cutting.{Cutting}
 use Rattle.vault_types.specs.declared.JobConfig.{JobConfig}
 use Rattle.vault_types.specs.declared.Limits.{Limits}
 use Rattle.vault_types.specs.declared.Command.{Command}
@@ -18,13 +16,9 @@ use Rattle.vault_types.specs.Cuts.{cuts}
 use Rattle.vault_types.specs.Backup.{stored}
 use Rattle.first_backup.specs.Backup.{IsNumber, IsBare, BacksUp, nothing}
 
--- the set and the settings of a backup that the program can make yet: one that cuts by size, without the sampled index
-abbrev pub with_cutting : Cutting → ℕ → JobConfig → Option (ℕ × JobConfig)
-with_cutting (Fixed size) s config = Some (s, config)
-with_cutting (Ae window max) s config = None
-
+-- the set and the settings of a backup that the program can make yet: one without the sampled index
 abbrev pub backup_in : Command → Option (ℕ × JobConfig)
-backup_in (command.Backup s config queue lanes None) = with_cutting config.cutting s config
+backup_in (command.Backup s config queue lanes None) = Some (s, config)
 backup_in other = None
 
 -- the backup that the words ask for

@@ -6,7 +6,7 @@ ghost use Rattle.destor_top.specs.Run.{backup_in, backup_of};
 
 use script_words::read_words;
 use std::alloc::Global;
-use vault_types::{Command, Cutting, Fault, JobConfig, Set};
+use vault_types::{Command, Fault, JobConfig, Set};
 
 // The backup that the words ask for. `Usage` is answered exactly where they ask for none, and `Memory` where there is
 // none.
@@ -24,7 +24,7 @@ pub fn read_job(alloc: Global, words: &[String]) -> Result<(Set, JobConfig), Fau
     }
 }
 
-// The set and the settings of a backup that cuts by a fixed size, without the sampled index.
+// The set and the settings of a backup without the sampled index.
 fn job_of(command: Command) -> Option<(Set, JobConfig)>
     ensures { result ≡ backup_in command }
 {
@@ -34,10 +34,7 @@ fn job_of(command: Command) -> Option<(Set, JobConfig)>
             config,
             sample: None,
             ..
-        } => match config.cutting {
-            Cutting::Fixed { .. } => Some((set, config)),
-            Cutting::Ae { .. } => None,
-        },
+        } => Some((set, config)),
         _ => None,
     }
 }

@@ -196,7 +196,6 @@ fn other_words_are_refused_before_the_shelf_is_touched(rt: HostRuntime) -> Resul
         "backup --chunk fixed --colour 1",
         "backup --max 4096",
         // These are commands, but the program does not have them yet.
-        "backup",
         "backup --chunk fixed --size 4 --sample 1 --prefetch 1",
         "restore --version 1",
         "scrub",

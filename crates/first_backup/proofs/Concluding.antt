@@ -43,7 +43,7 @@ module _ (config : JobConfig) (e : Ended) (lens read : List ℕ) (rows : List Ro
   rows_each =
       subst (λ n. AllByRecursion (λ r. (1 ≤ r.id) × (r.id < 1 + n) × (1 ≤ r.len) × (r.len ≤ 65536)) rows) (sym lens_len)
       (subst (AllByRecursion (λ r. (1 ≤ r.id) × (r.id < 1 + length (first_fill config read).containers) × (1 ≤ r.len) × (r.len ≤ 65536))) (sym rows_are)
-      (fill_each config read h.sized))
+      (fill_each config read h.cuttable))
 
   -- so their bytes are few enough to count
   pub bytes_fit : length_of rows < 2 ^ 64
@@ -62,7 +62,7 @@ module _ (config : JobConfig) (e : Ended) (lens read : List ℕ) (rows : List Ro
         found
         ∙ ap (λ rs. sparse rs (len_at lens) config.threshold config.limit) rows_are
         ∙ ap (λ ls. sparse (first_fill config read).rows (len_at ls) config.threshold config.limit) h.lens_are
-        ∙ sym (sparse_first (first_fill config read).rows (first_fill config read).containers config.threshold config.limit (fill_numbered config read) (fill_each config read h.sized))
+        ∙ sym (sparse_first (first_fill config read).rows (first_fill config read).containers config.threshold config.limit (fill_numbered config read) (fill_each config read h.cuttable))
 
     module _ (s bytes : ℕ) (count : bytes ≡ length_of rows) where
       -- the bytes are those of the version
@@ -79,7 +79,7 @@ module _ (config : JobConfig) (e : Ended) (lens read : List ℕ) (rows : List Ro
           cc (next, bytes_are, h.rows, sparse_are, h.whole)
 
       pub recipe_has_rules : IsRecipe2 recipe
-      recipe_has_rules = subst IsRecipe2 (sym recipe_is) (record { rules = recipe_rules config read s h.sized h.few; whole = refl })
+      recipe_has_rules = subst IsRecipe2 (sym recipe_is) (record { rules = recipe_rules config read s h.cuttable h.few; whole = refl })
 
       -- and the answer is the definition's
       pub answer_is : (few : ℕ) → few ≡ length ids → Stored s 1 (length rows) bytes e.containers e.written few ≡ stored nothing s read config

@@ -1,6 +1,8 @@
 -- The end of a pass.
 use Rattle.std.proofs.Common.{◌≡◌, ℕ, ◌<◌, ◌≤◌, ◌^◌, List, ◌++◌, length, map, sym, ◌∙◌, ap, subst, arith, append_assoc}
+use Rattle.std.specs.Prelude.{option_to_list, Result, Ok, IfOk}
 use Rattle.std.proofs.lemmas.List.{map-append, length-map}
+use Rattle.vault_types.specs.declared.Fault.{Fault}
 use Rattle.vault_types.specs.declared.Fp.{Fp}
 use Rattle.vault_types.specs.declared.Row.{Row}
 use Rattle.vault_types.specs.Cuts.{cuts}
@@ -11,9 +13,21 @@ use Rattle.vault_types.specs.Decide.{decide}
 use Rattle.vault_traits.specs.Told.{ShelfTold}
 use Rattle.container_fill.specs.Filling.{IsFilledBy}
 use Rattle.backup_pass.specs.declared.pass.Pass.{Pass}
+use Rattle.backup_pass.specs.declared.pass.Passed.{Passed}
 use Rattle.backup_pass.specs.Passing.{answers_in}
 use Rattle.first_backup.specs.Going.{Begun, AreNumbered, IsUnderway, IsFed, HasEnded, chunks_of, first_fill, rules_of, len_of}
 use Rattle.first_backup.proofs.RecipeRules.{fill_numbered}
+
+-- what the pass gives at its end
+abbrev pub Gave : Begun → Pass → List ℕ → List Container → List Container → Passed → Type 0
+Gave b pass read containers out p =
+    (p.whole ≡ fp read) × (length (cuts read b.config.cutting) ≤ b.limits.chunks)
+    × IsFilledBy (option_to_list p.filled.last) p.filled.rows p.filled.next p.filled.containers p.filled.written 1 (containers ++ out) (length (chunks_of b.config read))
+    (fill 1 (chunks_of b.config read) (decide (answers_in pass) (rules_of b.config) (chunks_of b.config read)) b.config.container)
+
+pub gave : (b : Begun) (before : ShelfTold) (pass : Pass) (lens read : List ℕ) (h : IsFed b before pass lens read) (out : List Container) (result : Result Passed Fault) (p : Passed) → result ≡ Ok p
+    → IfOk result (Gave b pass read h.containers out) → Gave b pass read h.containers out p
+gave b before pass lens read h out result p is gives = subst (λ (r : Result Passed Fault). IfOk r (Gave b pass read h.containers out)) is gives
 
 module _ (b : Begun) (before : ShelfTold) (p : Pass) (lens read : List ℕ) (h : IsFed b before p lens read) (out last : List Container) (rows : List Row) (next containers written : ℕ) (whole : Fp)
     (ended : (whole ≡ fp read) × (length (cuts read b.config.cutting) ≤ b.limits.chunks)
@@ -36,7 +50,7 @@ module _ (b : Begun) (before : ShelfTold) (p : Pass) (lens read : List ℕ) (h :
     underway = subst (IsUnderway b.set b.shelf now) (all_of full is) under;
     few = ended.1;
     is = record {
-      sized = h.passed.sized;
+      cuttable = h.passed.cuttable;
       few = let few : length (cuts read b.config.cutting) ≤ b.limits.chunks = ended.1 in omega (arith, h.most);
       rows = filled.rows_are;
       whole = ended.0;

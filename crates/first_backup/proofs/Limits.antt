@@ -6,7 +6,7 @@ use Rattle.vault_types.specs.Cuts.{cuts, settled, unsettled, only_bytes}
 use Rattle.vault_types.proofs.BackupLemmas.{concat-cuts}
 use Rattle.vault_traits.specs.Told.{ShelfTold, SourceTold}
 use Rattle.backup_pass.specs.declared.pass.Pass.{Pass}
-use Rattle.backup_pass.specs.Passing.{IsSized}
+use Rattle.backup_pass.specs.Passing.{IsCuttable}
 use Rattle.first_backup.specs.Going.{Begun, IsGoing}
 use Rattle.first_backup.proofs.RecipeRules.{AreChunks, chunk_sizes, cuts_are_chunks}
 
@@ -18,7 +18,7 @@ one_at_most : (x : List ℕ) → length (only_bytes x) ≤ 1
 one_at_most [] = omega arith
 one_at_most (x ∷ xs) = omega arith
 
-read_within : (c : Cutting) (x : List ℕ) → IsSized c → length x ≤ 65536 * (length (settled x c) + 1)
+read_within : (c : Cutting) (x : List ℕ) → IsCuttable c → length x ≤ 65536 * (length (settled x c) + 1)
 read_within c x sized =
     let all : length (concat (cuts x c)) ≡ length x = ap length (concat-cuts x c) in
     let few : length (cuts x c) ≡ length (settled x c) + length (only_bytes (unsettled x c)) = length-append (settled x c) (only_bytes (unsettled x c)) in
@@ -28,4 +28,4 @@ read_within c x sized =
 pub goes_within : (b : Begun) (now : ShelfTold) (to : SourceTold) (p : Pass) (lens read : List ℕ) → IsGoing b now to p lens read → length read ≤ 65536 * 4194305
 goes_within b now to p lens read h =
     let gone : length h.fed.passed.chunks ≡ length (settled read b.config.cutting) = ap length h.fed.passed.cut.gone ∙ ap (λ c. length (settled read c)) h.fed.passed.cutting in
-    omega (arith, gone, h.fed.passed.count, h.fed.passed.within, h.fed.passed.most_is, h.fed.most, read_within b.config.cutting read h.fed.passed.sized)
+    omega (arith, gone, h.fed.passed.count, h.fed.passed.within, h.fed.passed.most_is, h.fed.most, read_within b.config.cutting read h.fed.passed.cuttable)

@@ -28,7 +28,7 @@ use Rattle.vault_types.proofs.RestoreLemmas.{fps-decide}
 use Rattle.keeper_parts.proofs.Beginning.{next_first, dataset_empty}
 use Rattle.container_fill.proofs.SumLemmas.{fp-is_fp}
 use Rattle.container_fill.proofs.PlaceLemmas.{containers-len}
-use Rattle.backup_pass.specs.Passing.{IsSized}
+use Rattle.backup_pass.specs.Passing.{IsCuttable}
 use Rattle.backup_pass.proofs.Sizes.{settled_chunks, last_chunks}
 use Rattle.har_monitor.proofs.Callers.{sparse_ascending, sparse_used}
 use Rattle.first_backup.specs.Backup.{nothing}
@@ -136,7 +136,7 @@ no_rows_no_bytes config x e =
     let none : length (cuts x config.cutting) ≡ 0 = sym (fill_rows config x) ∙ ap length e in
     sym (concat-cuts x config.cutting) ∙ ap concat (no_chunks (cuts x config.cutting) none)
 
--- chunks of a fixed size have 1 to 65,536 bytes
+-- chunks have 1 to 65,536 bytes
 
 abbrev pub AreChunks : List (List ℕ) → Type 0
 AreChunks ys = AllByRecursion (λ y. is_chunk y ≡ true) ys
@@ -161,7 +161,7 @@ chunks_append : (xs ys : List (List ℕ)) → AreChunks xs → AreChunks ys → 
 chunks_append [] ys h i = i
 chunks_append (x ∷ xs) ys h i = (h.0, chunks_append xs ys h.1 i)
 
-pub cuts_are_chunks : (c : Cutting) → IsSized c → (x : List ℕ) → AreChunks (cuts x c)
+pub cuts_are_chunks : (c : Cutting) → IsCuttable c → (x : List ℕ) → AreChunks (cuts x c)
 cuts_are_chunks c h x =
     chunks_append (settled x c) (only_bytes (unsettled x c))
     (subst AreChunks (settled_chunks c h x) (chunks_pass (settled x c)))
@@ -211,7 +211,7 @@ rows_each new high all new_id (y ∷ ys) (how ∷ hs) sized h =
     at Own e = new_id (fp y) e
     at Write e = new_id (fp y) e
 
-pub fill_each : (config : JobConfig) (x : List ℕ) → IsSized config.cutting → AllByRecursion (λ r. (1 ≤ r.id) × (r.id < 1 + length (first_fill config x).containers) × (1 ≤ r.len) × (r.len ≤ 65536)) (first_fill config x).rows
+pub fill_each : (config : JobConfig) (x : List ℕ) → IsCuttable config.cutting → AllByRecursion (λ r. (1 ≤ r.id) × (r.id < 1 + length (first_fill config x).containers) × (1 ≤ r.len) × (r.len ≤ 65536)) (first_fill config x).rows
 fill_each config x sized =
     rows_each (first_fill config x).containers (1 + length (first_fill config x).containers) (places config x) (taken config x) (cuts x config.cutting) (hows config x)
     (cuts_are_chunks config.cutting sized x)
@@ -219,7 +219,7 @@ fill_each config x sized =
 
 -- the recipe of the first version
 
-pub recipe_rules : (config : JobConfig) (x : List ℕ) (s : ℕ) → IsSized config.cutting → length (cuts x config.cutting) ≤ 4194304 → IsRecipe (recipe_of s 1 (version_from nothing (first_fill config x) (fp x) config))
+pub recipe_rules : (config : JobConfig) (x : List ℕ) (s : ℕ) → IsCuttable config.cutting → length (cuts x config.cutting) ≤ 4194304 → IsRecipe (recipe_of s 1 (version_from nothing (first_fill config x) (fp x) config))
 recipe_rules config x s sized few =
     let rows : length (first_fill config x).rows ≡ length (cuts x config.cutting) = fill_rows config x in
     let containers : length (first_fill config x).containers ≤ length (cuts x config.cutting) = fill_few config x in

@@ -12,7 +12,7 @@ use Rattle.vault_types.specs.State.{State, empty_state}
 use Rattle.vault_types.specs.Backup.{backup, stored}
 use Rattle.vault_types.specs.Shelf.{Blobs, table_name, payload_name, recipe_name, floor_name, Stands, StandsNearly}
 use Rattle.vault_traits.specs.Told.{ShelfTold, SourceTold, Gives}
-use Rattle.backup_pass.specs.Passing.{IsSized}
+use Rattle.backup_pass.specs.Passing.{IsCuttable}
 use Rattle.vault_traits.specs.Crash.{LeavesNowIfTold, LeavesOnlyIfTold}
 use Rattle.vault_traits.specs.Counts.{Rose}
 
@@ -28,9 +28,9 @@ nothing = empty_state 256
 abbrev pub IsBare : Blobs → Type 0
 IsBare m = (n : Name) → fin.get m n ≡ None
 
--- the settings of a backup that cuts by size are in their ranges
+-- the settings of a backup are in their ranges
 pub record IsInRange (config : JobConfig) : Type 0 where
-  pub cutting : IsSized config.cutting
+  pub cutting : IsCuttable config.cutting
   pub container_low : 1 ≤ config.container
   pub container_high : config.container ≤ 4194304
 

@@ -19,7 +19,7 @@ use Rattle.vault_traits.specs.Crash.{LeavesNowIfTold, LeavesOnlyIfTold}
 use Rattle.vault_traits.specs.Told.{ShelfTold, SourceTold, Gives}
 use Rattle.keeper_parts.specs.Parts.{HeldIfTold}
 use Rattle.backup_pass.specs.declared.pass.Pass.{Pass}
-use Rattle.backup_pass.specs.Passing.{HasPassed, IsSized, IsPassFault, answers_in}
+use Rattle.backup_pass.specs.Passing.{HasPassed, IsCuttable, IsPassFault, answers_in}
 use Rattle.first_backup.specs.declared.ending.Ended.{Ended}
 use Rattle.vault_types.specs.declared.Fault.{Fault}
 use Rattle.vault_types.specs.declared.Fault.TheVariants as fault
@@ -138,7 +138,7 @@ pub record IsStopped (b : Begun) (now : ShelfTold) (to : SourceTold) (f : Fault)
 
 -- the rows and counts are those of these bytes' chunks
 pub record IsFirst (config : JobConfig) (e : Ended) (lens read : List ℕ) : Type 0 where
-  pub sized : IsSized config.cutting
+  pub cuttable : IsCuttable config.cutting
   pub few : length (cuts read config.cutting) ≤ 4194304
   pub rows : e.rows ≡ (first_fill config read).rows
   pub whole : e.whole ≡ fp read

@@ -45,7 +45,8 @@ pub(crate) fn end_pass<S: Shelf>(
         → IfErr result (IsHalted b (S.told shelf.new) (IsTooManyInAll b read)) }
 {
     let mut full = Vec::new(alloc);
-    let Passed { filled, whole } = pass.finish(alloc, &mut full)?;
+    let (_, passed) = pass.finish(alloc, &mut full);
+    let Passed { filled, whole } = passed?;
     let Filled {
         last,
         rows,

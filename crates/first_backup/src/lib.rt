@@ -8,7 +8,7 @@ mod reading;
 mod sparse;
 
 ghost use Rattle.std.specs.Prelude.{◌≡◌, ◌≤◌, IfOk, []};
-ghost use Rattle.backup_pass.specs.Passing.{HasPassed, IsSized, answers_in};
+ghost use Rattle.backup_pass.specs.Passing.{HasPassed, answers_in};
 ghost use Rattle.first_backup.specs.Backup.{IsInRange, BacksUp};
 ghost use Rattle.first_backup.specs.Going.{no_answer, rules_of};
 
@@ -20,7 +20,7 @@ use fp_index::Index;
 use keeper_parts::mend;
 use std::alloc::Global;
 use vault_traits::{Shelf, Source};
-use vault_types::{Answer, Cutting, Fault, JobConfig, Limits, Memory, Set};
+use vault_types::{Answer, Fault, JobConfig, Limits, Memory, Set};
 
 // The pass of a store that has no container.
 fn begin(alloc: Global, config: &JobConfig, limit: u32) -> Result<Pass, Memory>
@@ -28,11 +28,8 @@ fn begin(alloc: Global, config: &JobConfig, limit: u32) -> Result<Pass, Memory>
     ensures passed { IfOk result (λ p. HasPassed p (rules_of config.now) limit 1 [] []) }
     ensures answers { IfOk result (λ p. answers_in p ≡ no_answer) }
 {
-    let Cutting::Fixed { size } = config.cutting else {
-        unreachable!()
-    };
     let index = Index::from_tables(alloc, &[])?;
-    Ok(Pass::new(alloc, index, Vec::new(alloc), 1, size, *config, limit))
+    Ok(Pass::new(alloc, index, Vec::new(alloc), 1, *config, limit))
 }
 
 /// Backs what the source has left up into a shelf that has no blobs, as version 1 of the set. `StoreFault`,

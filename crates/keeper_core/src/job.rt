@@ -3,7 +3,7 @@ ghost use Rattle.std.specs.Prelude.{◌≡◌, ◌≢◌, ◌<◌, ◌+◌, ◌^
 ghost use Rattle.vault_types.specs.Events.{Core, Job, IsNear, CanCommit, after_begin, after_mend, after_put, after_commit, after_abort, after_refused, committed, commit_change};
 ghost use Rattle.vault_traits.specs.Crash.{LeavesNowIfTold, LeavesOnlyIfTold};
 ghost use Rattle.blob_parts.specs.Causes.{HasCauses, HasStoreFault, IsUndamaged};
-ghost use Rattle.keeper_catalog.specs.View.{Keeps};
+ghost use Rattle.keeper_catalog.specs.View.{Keeps, HasCore};
 ghost use Rattle.keeper_jobs.specs.Jobs.{names_of, version_by};
 ghost use Rattle.keeper_core.specs.Stands.{index_of, job_of};
 ghost use Rattle.keeper_core.specs.Calls.{IsBegun, IsHalf, IsDue, due_after};
@@ -43,6 +43,7 @@ impl<S: Shelf> Keeper<S> {
         requires { self.old.job ≡ None }
         ensures ok { IfOk result (λ b. (K : Core) → Keeps self.old K → Keeps self.new (after_begin set K.strays K) × IsBegun K.state set b) }
         ensures lent { IfOk result (λ b. (b.index ≡ self.new.index) × (self.new.index ≡ self.old.index)) }
+        ensures core { OnOk result (HasCore self.old) }
         ensures err { OnErr result (((K : Core) → Keeps self.old K → Keeps self.new K) × (self.new.job ≡ None)) }
         ensures any_moment { (K : Core) → Keeps self.old K → LeavesNowIfTold self.old.told.history (IsNear K.state K.other)
             → LeavesOnlyIfTold self.old.told.history self.new.told.history (IsNear K.state K.other) }
@@ -115,6 +116,7 @@ impl<S: Shelf> Keeper<S> {
         ensures any_moment { (K : Core) (j : Job) → Keeps self.old K → CanCommit K j recipe → LeavesNowIfTold self.old.told.history (IsNear K.state None)
             → LeavesOnlyIfTold self.old.told.history self.new.told.history (IsNear K.state (Some (commit_change (version_by K j recipe) j recipe K.state))) }
         ensures acknowledged { OnOk result ((K : Core) (j : Job) → Keeps self.old K → CanCommit K j recipe → LeavesNowIfTold self.new.told.history (IsNear (committed (version_by K j recipe) j K.state) None)) }
+        ensures due { IfErr result (λ f. IsDue f self.old.job self.old.pending self.new.pending) }
         ensures gets { self.new.told.gets ≡ self.old.told.gets }
         ensures causes { HasCauses self.old.told.faults self.new.told.faults IsUndamaged result }
     {

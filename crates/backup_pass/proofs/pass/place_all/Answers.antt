@@ -9,7 +9,7 @@ loop-bytes-preserved-in-Continue-branch-2 c = record {
   placed = λ r first taken gone h.
       placed_some _ r first taken c.loop-bytes.yielded c.in-Some.bytes c.in-Some-chunk_of.chunk _ (ap option_to_list (sym c.in-Some-chunk_of.is) ∙ c.chunk_of.ensures)
       (c.in_ok-take-in-Some-chunk_of.ensures.placed r first _ gone (c.loop-bytes.invariant.placed r first taken gone h));
-  answers = c.in_ok-take-in-Some-chunk_of.ensures.answers ∙ c.loop-bytes.invariant.answers;
+  index = c.in_ok-take-in-Some-chunk_of.ensures.index ∙ c.loop-bytes.invariant.index;
   count = let n = length_push c.loop-bytes.yielded c.in-Some.bytes in omega (arith, c.in_ok-count_one.ensures.ok.0, c.loop-bytes.invariant.count, n);
   within = λ low. c.in_ok-count_one.ensures.ok.1;
 }
@@ -19,7 +19,7 @@ loop-bytes-preserved c = record {
   placed = λ r first taken gone h.
       placed_none _ r first taken c.loop-bytes.yielded c.in-Some.bytes _ (ap option_to_list (sym c.in-None-chunk_of.is) ∙ c.chunk_of.ensures)
       (c.loop-bytes.invariant.placed r first taken gone h);
-  answers = c.loop-bytes.invariant.answers;
+  index = c.loop-bytes.invariant.index;
   count = let n = length_push c.loop-bytes.yielded c.in-Some.bytes in omega (arith, c.in_ok-count_one.ensures.ok.0, c.loop-bytes.invariant.count, n);
   within = λ low. c.in_ok-count_one.ensures.ok.1;
 }

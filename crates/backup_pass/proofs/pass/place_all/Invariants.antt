@@ -4,7 +4,7 @@ use Rattle.vault_types.specs.Names.{NamedChunk, named_chunk}
 use Rattle.vault_types.specs.Tables.{Container}
 use Rattle.vault_types.specs.Decide.{Rules}
 use Rattle.vault_types.specs.Stages.{is_chunk}
-use Rattle.backup_pass.specs.Placing.{HasPlaced, answers_of}
+use Rattle.backup_pass.specs.Placing.{HasPlaced, index_of}
 use Rattle.backup_pass.specs.Passing.{bytes_of_all}
 use Rattle.backup_pass.proofs.pass.place_all.Given as goal
 
@@ -14,7 +14,7 @@ invariant-loop-bytes l =
       placed : (r : Rules) (first : ℕ) (taken : List NamedChunk) (gone : List Container)
           → HasPlaced l.fn.placer r first taken (gone ++ l.fn.out.items)
           → HasPlaced l.placer r first (taken ++ map named_chunk (filter is_chunk (bytes_of_all l.yielded))) (gone ++ l.out.items);
-      answers : answers_of l.placer ≡ answers_of l.fn.placer;
+      index : index_of l.placer ≡ index_of l.fn.placer;
       count : l.count ≡ l.fn.count + length l.yielded;
       within : l.fn.count ≤ l.limit → l.count ≤ l.limit;
     }

@@ -1,4 +1,5 @@
-use Rattle.std.proofs.Common.{◌++◌}
+use Rattle.std.proofs.Common.{◌++◌, ap}
+use Rattle.fp_index.specs.Index.{found_in}
 use Rattle.backup_pass.specs.Passing.{HasPassed}
 use Rattle.first_backup.specs.Going.{IsTooMany, rules_of}
 use Rattle.first_backup.proofs.Jobs.{stopped_again}
@@ -15,7 +16,7 @@ pub returns-clause-ok : goal.returns-clause-ok
 returns-clause-ok g c b read h =
     let passed : HasPassed c.feed.new.self (rules_of b.config) b.limits.chunks 1 (read ++ c.args.piece.now) (h.containers ++ c.feed.new.out.items) =
     c.in_ok-feed.ensures.passed (rules_of b.config) b.limits.chunks 1 read h.containers (passed_none b _ _ _ read h c.new-full.result.items c.new-full.ensures.items) in
-    fed_ok b _ _ c.args.pass.now c.feed.new.self _ _ read c.args.piece.now c.feed.new.out.items h c.put_all.result passed c.feed.ensures.answers
+    fed_ok b _ _ c.args.pass.now c.feed.new.self _ _ read c.args.piece.now c.feed.new.out.items h c.put_all.result passed (ap found_in c.in_ok-feed.ensures.index)
     (c.put_all.ensures.ok b.set b.shelf h.containers (numbered_passed c.feed.new.self (rules_of b.config) b.limits.chunks (read ++ c.args.piece.now) (h.containers ++ c.feed.new.out.items) passed) h.underway) c.put_all.ensures.lens
 
 pub returns-clause-err : goal.returns-clause-err

@@ -1,36 +1,37 @@
-use Rattle.std.proofs.Common.{◌≡◌, ◌∙◌, ap, refl, sym, map, ◌++◌, [], subst, length, Option, ℕ}
-use Rattle.std.specs.Prelude.{Err, filter, option_to_list}
-use Rattle.vault_types.specs.declared.Fp.{Fp}
-use Rattle.vault_types.specs.Names.{named_chunk}
+use Rattle.std.proofs.Common.{◌≡◌, ◌∙◌, ap, refl, sym, map, ◌++◌, [], subst, length, List, ◌≤◌, ◌+◌}
+use Rattle.std.specs.Prelude.{filter, option_to_list, IfOk, IfErr, OnOk}
+use Rattle.vault_types.specs.Names.{NamedChunk, named_chunk}
 use Rattle.vault_types.specs.Cuts.{cuts, only_bytes}
 use Rattle.vault_types.specs.Decide.{decide}
 use Rattle.vault_types.specs.Fill.{fill}
 use Rattle.vault_types.specs.Stages.{is_chunk}
 use Rattle.container_fill.specs.Filling.{IsFilledBy}
-use Rattle.backup_pass.specs.Passing.{bytes_of_all, IsSized}
+use Rattle.backup_pass.specs.Passing.{bytes_of_all, IsCuttable, IsPassFault, answers_in}
 use Rattle.backup_pass.proofs.Sizes.{last_chunks}
-use Rattle.backup_pass.proofs.Feeding.{fault_is, ended, few_is}
+use Rattle.backup_pass.proofs.Feeding.{fault_is, all_named, few_is}
 use Rattle.backup_pass.proofs.pass.Pass.finish.Goals as goal
 
-pub returns-in-Err-clause-causes : goal.returns-in-Err-clause-causes
-returns-in-Err-clause-causes c r limit first x gone h =
+pub returns-in-Err-filled-clause-causes : goal.returns-in-Err-filled-clause-causes
+returns-in-Err-filled-clause-causes c r limit first x gone h =
     let p = c.args.self in
     let more = only_bytes p.chunker.held in
-    fault_is p r limit first x _ h c.finish.new.out.items more (c.in_ok-finish.ensures.chunks ∙ ap (λ items. bytes_of_all items ++ more) c.new-chunks.ensures.items)
-    (cuts x r.config.cutting) (c.in_ok-finish.ensures.stream h.chunks x h.cut ∙ ap (cuts x) h.cutting) {T = Unit {0}} (Err c.in-Err.fault) c.in-Err.ensures.causes
+    subst (λ q. IfErr q (IsPassFault limit (length (cuts x r.config.cutting)))) c.in-Err-filled.is
+    (fault_is p r limit first x _ h c.finish.new.out.items more (c.in-Ok.ensures.chunks ∙ ap (λ items. bytes_of_all items ++ more) c.new-chunks.ensures.items)
+    (cuts x r.config.cutting) (c.in-Ok.ensures.stream h.chunks x h.cut ∙ ap (cuts x) h.cutting) c.place_last-index.result.1 c.place_last-index.ensures.causes)
 
-pub returns-clause-passed : goal.returns-clause-passed
-returns-clause-passed c r limit first x gone h =
+pub returns-in-Ok-filled-clause-passed : goal.returns-in-Ok-filled-clause-passed
+returns-in-Ok-filled-clause-passed c r limit first x gone h =
     let p = c.args.self in
     let more = only_bytes p.chunker.held in
-    let given = c.in_ok-finish.ensures.chunks ∙ ap (λ items. bytes_of_all items ++ more) c.new-chunks.ensures.items in
-    let same = c.in_ok-finish.ensures.stream h.chunks x h.cut ∙ ap (cuts x) h.cutting in
+    let given = c.in-Ok.ensures.chunks ∙ ap (λ items. bytes_of_all items ++ more) c.new-chunks.ensures.items in
+    let same = c.in-Ok.ensures.stream h.chunks x h.cut ∙ ap (cuts x) h.cutting in
     let chunks : filter is_chunk more ≡ more =
-    subst (λ y. filter is_chunk (only_bytes y) ≡ only_bytes y) (sym h.cut.held) (last_chunks p.chunker.cutting (subst IsSized (sym h.cutting) h.sized) x) in
-    let placed = ended p r limit first x _ h c.finish.new.out.items more given chunks _ _ (cuts x r.config.cutting) same (c.in-Ok.ensures.placed r first (map named_chunk h.chunks) gone h.placed) in (
-      c.finish-3.ensures x h.summed,
-      few_is p r limit first x _ h c.finish.new.out.items more given (cuts x r.config.cutting) same _ c.in-Ok.ensures.count (c.in-Ok.ensures.within h.within),
-      subst (λ (find : Fp → Option ℕ). IsFilledBy (option_to_list c.in_ok-filled.filled.last) c.in_ok-filled.filled.rows c.in_ok-filled.filled.next c.in_ok-filled.filled.containers c.in_ok-filled.filled.written first (gone ++ c.finish-2.new.out.items) (length (map named_chunk (cuts x r.config.cutting)))
-          (fill first (map named_chunk (cuts x r.config.cutting)) (decide find r (map named_chunk (cuts x r.config.cutting))) r.config.container)) c.in-Ok.ensures.answers
-          (c.in_ok-filled.ensures r first (map named_chunk (cuts x r.config.cutting)) gone placed),
+    subst (λ y. filter is_chunk (only_bytes y) ≡ only_bytes y) (sym h.cut.held) (last_chunks p.chunker.cutting (subst IsCuttable (sym h.cutting) h.cuttable) x) in (
+      c.finish-whole.ensures x h.summed,
+      few_is p r limit first x _ h c.finish.new.out.items more given (cuts x r.config.cutting) same (subst (λ q. OnOk q (p.count + length c.finish.new.out.items ≤ p.limit)) c.in-Ok-filled.is (c.place_last-index.ensures.within h.within)),
+      subst (λ (cs : List NamedChunk). IsFilledBy (option_to_list c.in-Ok-filled.filled.last) c.in-Ok-filled.filled.rows c.in-Ok-filled.filled.next c.in-Ok-filled.filled.containers c.in-Ok-filled.filled.written first (gone ++ c.place_last-index.new.out.items) (length cs)
+          (fill first cs (decide (answers_in p) r cs) r.config.container)) (all_named p r limit first x _ h c.finish.new.out.items more given chunks (cuts x r.config.cutting) same)
+          (subst (λ q. IfOk q (λ f. IsFilledBy (option_to_list f.last) f.rows f.next f.containers f.written first (gone ++ c.place_last-index.new.out.items) (length (map named_chunk h.chunks ++ map named_chunk (filter is_chunk (bytes_of_all c.finish.new.out.items))))
+          (fill first (map named_chunk h.chunks ++ map named_chunk (filter is_chunk (bytes_of_all c.finish.new.out.items))) (decide (answers_in p) r (map named_chunk h.chunks ++ map named_chunk (filter is_chunk (bytes_of_all c.finish.new.out.items)))) r.config.container)))
+          c.in-Ok-filled.is (c.place_last-index.ensures.filled r first (map named_chunk h.chunks) gone h.placed)),
     )

@@ -12,13 +12,13 @@ IfOk_then : {T E : Type 0} {P Q : T → Type 0} (r : Result T E) → ((x : T) �
 IfOk_then (Ok x) f p = f x p
 IfOk_then (Err e) f p = p
 
-pub returns : goal.returns
-returns c r first chunks gone h =
+pub returns-in-Ok-clause-filled : goal.returns-in-Ok-clause-filled
+returns-in-Ok-clause-filled c r first chunks gone h =
     let p = c.args.self in
     let filled = placed_all p r first chunks _ _ c.place_segment.new.filler h
-    (c.in_ok-place_segment.ensures.filled r (places_in (answers_of p) r h.done) first gone (joined h.done) h.decided h.filled) in
+    (c.in-Ok.ensures.filled r (places_in (answers_of p) r h.done) first gone (joined h.done) h.decided h.filled) in
     IfOk_then c.finish.result
     (λ f made. subst (λ n. IsFilledBy (option_to_list f.last) f.rows f.next f.containers f.written first (gone ++ c.place_segment.new.out.items) (length chunks) (fill first chunks (decide (answers_of p) r chunks) n))
-    (c.in_ok-place_segment.ensures.capacity ∙ h.capacity)
+    (c.in-Ok.ensures.capacity ∙ h.capacity)
     (made first _ chunks (decide (answers_of p) r chunks) filled (decide_in_turn (answers_of p) r chunks)))
     c.finish.ensures.in_turn

@@ -1,6 +1,5 @@
 use Rattle.std.proofs.Common.{◌≡◌, ap, sym, refl, map, []}
 use Rattle.vault_types.specs.Names.{named_chunk}
-use Rattle.fp_index.specs.Index.{found_in}
 use Rattle.backup_pass.specs.Placing.{only_segment}
 use Rattle.backup_pass.proofs.placer.Placer.new.Goals as goal
 
@@ -14,6 +13,3 @@ returns-clause-placed c = record {
   filled = c.new-4.ensures.filled;
   capacity = c.new-4.ensures.capacity;
 }
-
-pub returns-clause-answers : goal.returns-clause-answers
-returns-clause-answers c = ap found_in c.new-3.ensures.index

@@ -46,3 +46,6 @@ returns-clause-ok g c K keeps =
         index = subst (λ (l : List (Fp × List ℕ)). IsIndexOf l (map (λ (d : Container). d.table) K.state.containers)) (sym c.lend-index.ensures.index.0) k.index;
       },
     )
+
+pub returns-clause-core : goal.returns-clause-core
+returns-clause-core g c = let k = c.self.invariant.0 in (k.0, subst (λ (v : View). Keeps v k.0) c.self.view_is k.1)

@@ -2,6 +2,7 @@
 use Rattle.std.specs.Prelude.{◌≡◌, ◌≤◌, ◌<◌, ℕ, List, map, length, Option, Vec}
 use Rattle.vault_types.specs.declared.Fp.{Fp}
 use Rattle.vault_types.specs.declared.Cutting.{Cutting}
+use Rattle.vault_types.specs.declared.JobConfig.{JobConfig}
 use Rattle.vault_types.specs.declared.Cutting.TheVariants.{Fixed, Ae}
 use Rattle.vault_types.specs.declared.Fault.{Fault}
 use Rattle.vault_types.specs.declared.Fault.TheVariants as fault
@@ -17,6 +18,12 @@ use Rattle.backup_pass.specs.declared.pass.Pass.{Pass}
 abbrev pub IsCuttable : Cutting → Type 0
 IsCuttable (Fixed size) = (1 ≤ size) × (size ≤ 65536)
 IsCuttable (Ae window most) = (1 ≤ window) × (window < most) × (most ≤ 65536)
+
+-- the settings of a backup are in their ranges
+pub record IsInRange (config : JobConfig) : Type 0 where
+  pub cutting : IsCuttable config.cutting
+  pub container_low : 1 ≤ config.container
+  pub container_high : config.container ≤ 4194304
 
 -- some vectors as lists
 abbrev pub bytes_of_all : {Z : Type 0} → List (Vec ℕ Z) → List (List ℕ)

@@ -16,13 +16,12 @@ use Rattle.vault_types.specs.Tables.{Container, id_of, IsTable}
 use Rattle.vault_types.specs.State.{State, Dataset, KeptVersion, dataset, empty_dataset, floor_of, version_in, version_of, recipe_of, length_of, all_rows, HasRecipeRules, IsDataset, IsValid}
 use Rattle.vault_types.specs.Bytes.{row_bytes}
 use Rattle.vault_types.specs.Blobs.{table_bytes, floor_bytes, recipe_bytes, recipe_bytes_1, recipe_bytes_2, IsVersion, IsRecipe}
-use Rattle.vault_types.specs.Shelf.{Blobs, table_name, payload_name, recipe_name, floor_name, HasContainer, IsFloorBlob, IsRecipeBlob}
+use Rattle.vault_types.specs.Shelf.{Stands, Blobs, table_name, payload_name, recipe_name, floor_name, HasContainer, IsFloorBlob, IsRecipeBlob}
 use Rattle.blob_parts.proofs.Fields.{blob_same}
 use Rattle.container_store.proofs.TableLemmas.{has_widths}
 use Rattle.container_store.proofs.TableField.{table_field}
 use Rattle.recipe_store.proofs.Apart.{recipes_apart, floors_apart}
 use Rattle.keeper_parts.proofs.Changing.{version_low, version_high}
-use Rattle.keeper_catalog.specs.View.{Opens}
 use Rattle.commit_laws.proofs.Listing.{all_of, some_same, none_some}
 use Rattle.commit_laws.proofs.Growing.{dataset_at}
 
@@ -180,7 +179,12 @@ equal a b f g = by_test (nat_lt a b) (nat_lt b a) refl refl
 
 -- what blobs that stand for a state have of it
 
-module _ (m : Blobs) (T : State) (opens : Opens m T) where
+-- the blobs stand for the valid state
+pub record StandsFor (m : Blobs) (T : State) : Type 0 where
+  pub stands : Stands m T
+  pub valid : IsValid T
+
+module _ (m : Blobs) (T : State) (opens : StandsFor m T) where
   is_dataset : (s : ℕ) → s < length T.datasets → IsDataset (dataset T s)
   is_dataset s below = dataset_at T.datasets s below opens.valid.datasets
 
@@ -201,7 +205,7 @@ module _ (m : Blobs) (T : State) (opens : Opens m T) where
       let place = (got_is (dataset T s).versions i k k e).0 in
       (omega arith, omega arith)
 
-module _ (m : Blobs) (T U : State) (one : Opens m T) (two : Opens m U) where
+module _ (m : Blobs) (T U : State) (one : StandsFor m T) (two : StandsFor m U) where
   sets_alike : length T.datasets ≡ length U.datasets
   sets_alike = one.valid.sets ∙ sym two.valid.sets
 
@@ -222,7 +226,7 @@ module _ (m : Blobs) (T U : State) (one : Opens m T) (two : Opens m U) where
       let there = has_blob m U two s i l.0 in_two l.1 in
       blob_some U s (floor_of U s + i) l.0 (subst (λ (b : Option (List ℕ)). IsRecipeBlob U s (floor_of U s + i) l.0 b) (one.stands.newest s (floor_of U s + i) below (omega arith) number.1) there)
 
-module _ (m : Blobs) (T U : State) (one : Opens m T) (two : Opens m U) where
+module _ (m : Blobs) (T U : State) (one : StandsFor m T) (two : StandsFor m U) where
   lengths_are : (s : ℕ) → s < length T.datasets → length (dataset T s).versions ≡ length (dataset U s).versions
   lengths_are s below = equal (length (dataset T s).versions) (length (dataset U s).versions) (no_more m T U one two s below) (no_more m U T two one s (omega (arith, below, sets_alike m T U one two)))
 
@@ -287,9 +291,9 @@ containers_same m (c ∷ cs) (d ∷ ds) ids one two first second =
     ap (λ (x : Container). x ∷ cs) (container_same m c d both.0 one.0 two.0 first.0 second.0)
     ∙ ap (λ (x : List Container). d ∷ x) (containers_same m cs ds both.1 one.1 two.1 first.1 second.1)
 
--- blobs open as one state at most
-pub opens_unique : (m : Blobs) (T U : State) → Opens m T → Opens m U → T ≡ U
-opens_unique m T U one two = λ i. record { datasets = datasets i; containers = containers i }
+-- blobs stand for one valid state at most
+pub stands_unique : (m : Blobs) (T U : State) → StandsFor m T → StandsFor m U → T ≡ U
+stands_unique m T U one two = λ i. record { datasets = datasets i; containers = containers i }
   where
     alike : AllZip (AreAlike m T U one two) T.datasets U.datasets
     alike = datasets_are m T U one two

@@ -14,13 +14,12 @@ ghost use Rattle.vault_types.specs.Bytes.{HasPayload};
 ghost use Rattle.vault_types.specs.Events.{Core, Job, CanCommit, Held, IsChange, IsCore, after_abort, after_commit, after_put, after_refused, commit_change, committed};
 ghost use Rattle.vault_types.specs.Lists.{has, set_of};
 ghost use Rattle.vault_types.specs.Marks.{Mark, marks_of};
-ghost use Rattle.vault_types.specs.Shelf.{Blobs, recipe_name, with_blob};
+ghost use Rattle.vault_types.specs.Shelf.{Blobs, recipe_name, with_blob, Stands};
 ghost use Rattle.vault_types.specs.State.{KeptVersion, State, floor_of, next_of, version_of, IsValid};
 ghost use Rattle.vault_types.specs.Tables.{Container, IsTable};
 ghost use Rattle.restore_pins.specs.Pins.{IsListOf};
 ghost use Rattle.keeper_parts.specs.Parts.{CanChange, HeldIfTold, change};
 ghost use Rattle.keeper_catalog.specs.Catalog.{AreMarks, AreTables, listed, set_info, table_at, versions_in};
-ghost use Rattle.keeper_catalog.specs.View.{Opens};
 ghost use Rattle.commit_laws.specs.Laws.{AreStraysLeft, SaysVersion, is_put, name_of, pin_with, pinned_core, said};
 
 /// Where the open job may commit a recipe, the state with the recipe's version and the job's containers is valid and
@@ -95,7 +94,7 @@ pub fn ends_keep_a_core()
         → AreTables t (listed K) → AreTables t' (listed (after_abort K)) }
 {}
 
-/// Blobs open as one state at most: they determine floors, versions, containers, payloads and sums.
-pub fn blobs_open_as_one_state()
-    ensures { (m : Blobs) (T U : State) → Opens m T → Opens m U → T ≡ U }
+/// Blobs stand for one valid state at most: they determine floors, versions, containers, payloads and sums.
+pub fn blobs_stand_for_one_state()
+    ensures { (m : Blobs) (T U : State) → Stands m T → IsValid T → Stands m U → IsValid U → T ≡ U }
 {}

@@ -8,7 +8,7 @@ use Rattle.vault_types.specs.declared.Pending.TheVariants.{Opened}
 use Rattle.vault_types.specs.declared.Recipe.{Recipe}
 use Rattle.vault_types.specs.State.{State, KeptVersion, version_of, IsValid}
 use Rattle.vault_types.specs.Blobs.{SpellsRecipe, recipe_bytes}
-use Rattle.vault_types.specs.Shelf.{Blobs, recipe_name}
+use Rattle.vault_types.specs.Shelf.{Blobs, recipe_name, Stands}
 use Rattle.vault_types.specs.Events.{Core, IsCore}
 use Rattle.vault_traits.specs.Told.{ShelfTold}
 use Rattle.blob_parts.specs.Causes.{Has}
@@ -20,7 +20,7 @@ use Rattle.fp_index.specs.Index.{IsIndexOf}
 use Rattle.commit_laws.specs.Laws.{SaysVersion}
 use Rattle.commit_laws.proofs.Listing.{no_member}
 use Rattle.commit_laws.proofs.Loading.{held_version, held_says}
-use Rattle.commit_laws.proofs.Unique.{opens_unique}
+use Rattle.commit_laws.proofs.Unique.{stands_unique}
 use Rattle.keeper_jobs.proofs.Seeing.{opened_failed}
 use Rattle.keeper_core.specs.Calls.{IsWholeOf}
 
@@ -56,10 +56,10 @@ opened_keeps T told n index pins none valid held memo index_is = record {
   pending = refl;
 }
 
--- blobs open as one state
-pub each_keeps : (v : View) (T : State) (b : Option Blobs) → IfSome b (λ m. Opens m T) → Keeps v (opened_core T v.memo.strays) → IfSome b (λ m. (U : State) → Opens m U → Keeps v (opened_core U v.memo.strays))
+-- blobs stand for one state
+pub each_keeps : (v : View) (T : State) (b : Option Blobs) → IfSome b (λ m. Opens m T) → Keeps v (opened_core T v.memo.strays) → IfSome b (λ m. (U : State) → Stands m U → IsValid U → Keeps v (opened_core U v.memo.strays))
 each_keeps v T None opens keeps = tt
-each_keeps v T (Some m) opens keeps = λ U also. subst (λ (W : State). Keeps v (opened_core W v.memo.strays)) (opens_unique m T U opens also) keeps
+each_keeps v T (Some m) opens keeps = λ U stands valid. subst (λ (W : State). Keeps v (opened_core W v.memo.strays)) (stands_unique m T U (record { stands = opens.stands; valid = opens.valid }) (record { stands = stands; valid = valid })) keeps
 
 -- what is read of a kept version
 pub says_version : (v : View) (K : Core) (k : KeptVersion) (s n : ℕ) (r : Recipe) (bytes : List ℕ) → Keeps v K → s < 256 → version_of K.state s n ≡ Some k → IsSome v.told.blobs → Has v.told.blobs (recipe_name s n) (Some bytes) → SpellsRecipe s n bytes r → SaysVersion r k

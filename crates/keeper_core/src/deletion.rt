@@ -7,7 +7,7 @@ ghost use Rattle.vault_types.specs.State.{latest_of};
 ghost use Rattle.vault_types.specs.Delete.{delete, removed};
 ghost use Rattle.vault_types.specs.Events.{Core, IsNear, after_delete, after_release, delete_change};
 ghost use Rattle.vault_traits.specs.Crash.{LeavesNowIfTold, LeavesOnlyIfTold};
-ghost use Rattle.restore_pins.specs.Pins.{numbers};
+ghost use Rattle.restore_pins.specs.Pins.{numbers, without};
 ghost use Rattle.deletion_laws.specs.Deleting.{IsDeleting};
 ghost use Rattle.deletion_laws.specs.Releasing.{IsReleased};
 ghost use Rattle.keeper_parts.specs.Parts.{HeldIfTold};
@@ -95,6 +95,7 @@ impl<S: Shelf> Keeper<S> {
     pub fn release(&mut self, no: PinNo)
         requires { IsTrue (has no (numbers self.old.pins)) }
         ensures releases { (K : Core) → Keeps self.old K → Keeps self.new (after_release no self.new.memo.strays K) }
+        ensures pins { self.new.pins ≡ without no self.old.pins }
         ensures any_moment { (K : Core) → Keeps self.old K → LeavesNowIfTold self.old.told.history (IsNear K.state K.other)
             → LeavesOnlyIfTold self.old.told.history self.new.told.history (IsNear K.state K.other) }
 
@@ -102,6 +103,7 @@ impl<S: Shelf> Keeper<S> {
         // failed.
         ensures within { (K : Core) → Keeps self.old K → (n : Named) → Contains self.new.memo.strays n → Contains self.old.memo.strays n ⊎ IsReleased K no n }
         ensures few { self.new.told.faults < 2 ^ 64 - 1 → length self.new.memo.strays + self.old.told.faults ≤ length self.old.memo.strays + self.new.told.faults }
+        ensures tells { IsSome self.old.told.blobs → IsSome self.new.told.blobs }
         ensures gets { self.new.told.gets ≡ self.old.told.gets }
         ensures later { self.old.told.faults ≤ self.new.told.faults }
         ensures same { (self.new.index ≡ self.old.index) × (self.new.job ≡ self.old.job) × (self.new.pending ≡ self.old.pending) }

@@ -1,12 +1,14 @@
 //! The events of a job, and mending.
-ghost use Rattle.std.specs.Prelude.{◌≡◌, ◌≢◌, ◌<◌, ◌+◌, ◌^◌, ◌⊎◌, ◌++◌, Some, None, IsSome, IsSomeAnd, IfOk, IfErr, OnOk, OnErr};
+ghost use Rattle.std.specs.Prelude.{◌≡◌, ◌≢◌, ◌<◌, ◌+◌, ◌^◌, ◌⊎◌, ◌++◌, ◌∷◌, [], Some, None, IsSome, IsSomeAnd, IfOk, IfErr, OnOk, OnErr};
+ghost use Rattle.vault_types.specs.Shelf.{recipe_name};
 ghost use Rattle.vault_types.specs.Events.{Core, Job, IsNear, CanCommit, after_begin, after_mend, after_put, after_commit, after_abort, after_refused, committed, commit_change};
 ghost use Rattle.vault_traits.specs.Crash.{LeavesNowIfTold, LeavesOnlyIfTold};
 ghost use Rattle.blob_parts.specs.Causes.{HasCauses, HasStoreFault, IsUndamaged};
+ghost use Rattle.commit_laws.specs.Laws.{AreStraysLeft};
 ghost use Rattle.keeper_catalog.specs.View.{Keeps, HasCore};
 ghost use Rattle.keeper_jobs.specs.Jobs.{names_of, version_by};
 ghost use Rattle.keeper_core.specs.Stands.{index_of, job_of};
-ghost use Rattle.keeper_core.specs.Calls.{IsBegun, IsHalf, IsDue, due_after};
+ghost use Rattle.keeper_core.specs.Calls.{IsBegun, IsHalf, IsShelfFault, IsDue, due_after};
 
 use crate::keeper::{Begun, Keeper, Stand, next_of_sets};
 use container_store::Sealed;
@@ -48,6 +50,8 @@ impl<S: Shelf> Keeper<S> {
         ensures any_moment { (K : Core) → Keeps self.old K → LeavesNowIfTold self.old.told.history (IsNear K.state K.other)
             → LeavesOnlyIfTold self.old.told.history self.new.told.history (IsNear K.state K.other) }
         ensures acknowledged { IfOk result (λ b. self.old.pending ≢ Pending.Not → (K : Core) → Keeps self.old K → LeavesNowIfTold self.new.told.history (IsNear K.state None)) }
+        ensures tells { IsSome self.old.told.blobs → IsSome self.new.told.blobs }
+        ensures pins { self.new.pins ≡ self.old.pins }
         ensures gets { self.new.told.gets ≡ self.old.told.gets }
         ensures causes { HasCauses self.old.told.faults self.new.told.faults IsUndamaged result }
     {
@@ -84,6 +88,8 @@ impl<S: Shelf> Keeper<S> {
         ensures strays { (self.new.memo.strays ≡ self.old.memo.strays) ⊎ (self.new.memo.strays ≡ self.old.memo.strays ++ names_of sealed.table.id) }
         ensures due { IfErr result (λ f. IsDue f self.old.job self.old.pending self.new.pending) }
         ensures lent { self.new.index ≡ self.old.index }
+        ensures tells { IsSome self.old.told.blobs → IsSome self.new.told.blobs }
+        ensures pins { self.new.pins ≡ self.old.pins }
         ensures gets { self.new.told.gets ≡ self.old.told.gets }
         ensures causes { HasCauses self.old.told.faults self.new.told.faults IsUndamaged result }
     {
@@ -117,6 +123,13 @@ impl<S: Shelf> Keeper<S> {
             → LeavesOnlyIfTold self.old.told.history self.new.told.history (IsNear K.state (Some (commit_change (version_by K j recipe) j recipe K.state))) }
         ensures acknowledged { OnOk result ((K : Core) (j : Job) → Keeps self.old K → CanCommit K j recipe → LeavesNowIfTold self.new.told.history (IsNear (committed (version_by K j recipe) j K.state) None)) }
         ensures due { IfErr result (λ f. IsDue f self.old.job self.old.pending self.new.pending) }
+
+        // Where it is done the job's names are no strays any more; where it is refused the recipe's name may be one more,
+        // if the shelf failed.
+        ensures left { OnOk result ((K : Core) (j : Job) → Keeps self.old K → CanCommit K j recipe → AreStraysLeft self.old.memo.strays (recipe_name j.set recipe.version) j.containers self.new.memo.strays) }
+        ensures strays { IfErr result (λ f. (self.new.memo.strays ≡ self.old.memo.strays) ⊎ ((self.new.memo.strays ≡ self.old.memo.strays ++ recipe_name recipe.set recipe.version ∷ []) × IsShelfFault f)) }
+        ensures tells { IsSome self.old.told.blobs → IsSome self.new.told.blobs }
+        ensures pins { self.new.pins ≡ self.old.pins }
         ensures gets { self.new.told.gets ≡ self.old.told.gets }
         ensures causes { HasCauses self.old.told.faults self.new.told.faults IsUndamaged result }
     {
@@ -161,6 +174,7 @@ impl<S: Shelf> Keeper<S> {
         ensures aborts { (K : Core) → Keeps self.old K → Keeps self.new (after_abort K) }
         ensures shelf { self.new.told ≡ self.old.told }
         ensures same { (self.new.memo.strays ≡ self.old.memo.strays) × (self.new.pending ≡ self.old.pending) × (self.new.index ≡ self.old.index) }
+        ensures pins { self.new.pins ≡ self.old.pins }
     {
         let job = match &self.stand {
             Stand::Here(_) => unreachable!(),

@@ -178,6 +178,9 @@ module _ (m : Memo) (index : List (Fp × List ℕ)) (info : JobInfo) (r : Recipe
       by_test n true is there = inr (⊎_elim (λ same. inl (same ∙ recipe_is)) (λ put. inr put) (of_job n is))
       by_test n false is there = inl (filter_contains stays (m.strays ++ recipe ∷ []) n there (ap not is))
 
+  pub left_of : (strays : List Name) → strays ≡ uncommitted recipe info.first info.next (m.strays ++ recipe ∷ []) → AreStraysLeft m.strays (recipe_name job.set r.version) job.containers strays
+  left_of strays are = subst (λ (was : List Name). AreStraysLeft was (recipe_name job.set r.version) job.containers strays) (sym c.memo.strays) (subst (AreStraysLeft K.strays (recipe_name job.set r.version) job.containers) (sym are) left_is)
+
   module _ (bytes : List ℕ) (spelled : bytes ≡ recipe_bytes r) where
     pub change_here : commit_change (version_by K job r) job r K.state ≡ change recipe bytes (committed (version_by K job r) job K.state)
     change_here = change_is K job r (version_by K job r) c.core c.can refl ∙ (λ i. change (sym recipe_is i) (sym spelled i) (committed (version_by K job r) job K.state))

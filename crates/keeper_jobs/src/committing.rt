@@ -1,13 +1,15 @@
 //! The commit of a recipe.
-ghost use Rattle.std.specs.Prelude.{◌≡◌, ◌≤◌, ◌<◌, ◌-◌, ◌++◌, ◌&&◌, ℕ, List, nat_le, nat_lt, length, if◌then◌else◌, Err, OnOk, OnErr, IsSome, Some, None, map};
+ghost use Rattle.std.specs.Prelude.{◌≡◌, ◌≤◌, ◌<◌, ◌-◌, ◌++◌, ◌&&◌, ◌∷◌, [], ℕ, List, nat_le, nat_lt, length, if◌then◌else◌, Err, OnOk, OnErr, IsSome, Some, None, map};
 ghost use Rattle.std.specs.List.{AllByRecursion};
 ghost use Rattle.vault_types.specs.declared.Table.{Table as TableOf};
+ghost use Rattle.vault_types.specs.Shelf.{recipe_name};
 ghost use Rattle.vault_types.specs.Events.{Core, Job, IsNear, after_commit, after_refused, committed, commit_change};
 ghost use Rattle.vault_types.specs.declared.Pending.{Pending as Pendings};
 ghost use Rattle.vault_types.specs.declared.Pending.TheVariants as pending;
 ghost use Rattle.fp_index.specs.Index.{IsIndexOf};
 ghost use Rattle.vault_traits.specs.Counts.{Rose};
 ghost use Rattle.vault_traits.specs.Crash.{LeavesNowIfTold, LeavesOnlyIfTold};
+ghost use Rattle.commit_laws.specs.Laws.{AreStraysLeft};
 ghost use Rattle.keeper_parts.specs.Parts.{HeldIfTold};
 ghost use Rattle.keeper_catalog.specs.Catalog.{memo_of, table_at, IsMemoOf, HasRoom};
 ghost use Rattle.keeper_jobs.specs.Jobs.{tables_from, AreKeyed, Commits, version_by};
@@ -61,6 +63,11 @@ pub fn commit_recipe<S: Shelf>(
         → HeldIfTold (S.told shelf.new).blobs (after_refused None None catalog.new.strays.items waits K) }
     ensures tells { IsSome (S.told shelf.old).blobs → IsSome (S.told shelf.new).blobs }
     ensures room { HasRoom (memo_of catalog.new) }
+
+    // The job's names are no strays any more where it is done; the recipe's name is one where its put was tried.
+    ensures left { OnOk result ((K : Core) (j : Job) → Commits (memo_of catalog.old) index.old job recipe K j → AreStraysLeft catalog.old.strays.items (recipe_name j.set recipe.version) j.containers catalog.new.strays.items) }
+    ensures as_before { (r : Refused) → result ≡ Err (Halt.Before r) → catalog.new.strays.items ≡ catalog.old.strays.items }
+    ensures tried { result ≡ Err Halt.Half → catalog.new.strays.items ≡ catalog.old.strays.items ++ recipe_name recipe.set recipe.version ∷ [] }
 
     // A crash at any moment leaves the state from before or the one after; at `Ok` only the one after, and where the
     // recipe's put was not tried only the one from before.

@@ -6,7 +6,7 @@ ghost use Rattle.vault_types.specs.Marks.{Mark, marked_ids};
 ghost use Rattle.vault_types.specs.Events.{Core, IsNear, after_release, pins_without};
 ghost use Rattle.vault_traits.specs.Crash.{LeavesNowIfTold, LeavesOnlyIfTold};
 ghost use Rattle.set_markers.specs.SetMarkers.{AreMarkersOfSets};
-ghost use Rattle.restore_pins.specs.Pins.{numbers, listed_ids, AreListsOf};
+ghost use Rattle.restore_pins.specs.Pins.{numbers, listed_ids, without, AreListsOf};
 ghost use Rattle.keeper_parts.specs.Parts.{HeldIfTold};
 ghost use Rattle.keeper_catalog.specs.Catalog.{memo_of, IsMemoOf, HasRoom};
 ghost use Rattle.deletion_laws.specs.Releasing.{IsReleased};
@@ -71,6 +71,7 @@ pub fn release_pin<S: Shelf>(shelf: &mut S, catalog: &mut Catalog, pins: &mut Pi
     requires room { HasRoom (memo_of catalog.old) }
     ensures memo { (K : Core) → Releasing (memo_of catalog.old) pins.old K → IsMemoOf (memo_of catalog.new) (after_release no catalog.new.strays.items K) }
     ensures pins { (K : Core) → Releasing (memo_of catalog.old) pins.old K → AreListsOf pins.new (pins_without no K.pins) }
+    ensures left { pins.new ≡ without no pins.old }
     ensures held { (K : Core) → Releasing (memo_of catalog.old) pins.old K → HeldIfTold (S.told shelf.old).blobs K → HeldIfTold (S.told shelf.new).blobs (after_release no catalog.new.strays.items K) }
 
     // A crash at any moment leaves what it could leave before.

@@ -17,6 +17,7 @@ use Rattle.vault_types.specs.declared.Fault.TheVariants as fault
 use Rattle.vault_types.specs.declared.Kind.TheVariants as kind
 use Rattle.vault_types.specs.declared.Why.TheVariants as why
 use Rattle.vault_types.specs.Names.{fp}
+use Rattle.vault_traits.specs.Counts.{Rose}
 use Rattle.vault_traits.specs.Told.{SinkTold, Takes}
 use Rattle.fingerprint_stage.specs.declared.running_sum.RunningSum.{RunningSum}
 use Rattle.restore_assembler.specs.declared.payload.Payload.{Payload}
@@ -108,6 +109,9 @@ none≢some : (n : ℕ) → ◌≡◌ {A = Option ℕ} None (Some n) → ⊥
 none≢some n e = cc
 
 -- a payload is wanted only where something is left to write
+pub rose_later : (a b : ℕ) → Rose a b → a ≤ b
+rose_later a b rose = omega arith
+
 pub wanted_some : (p : Progress) (id : ℕ) → wanted (seen_of p) ≡ Some id → p.done < length p.spots.items
 wanted_some p id wants = go (nat_lt p.done (length p.spots.items)) refl wants
   where

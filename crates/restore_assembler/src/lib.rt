@@ -61,6 +61,7 @@ impl Copier {
         ensures spots { IfOk result (λ s. s.spots ≡ spots.items) }
         ensures steps { IfOk result (λ s. s.steps ≡ plan.steps) }
         ensures slots { IfOk result (λ s. s.slots ≡ slots) }
+        ensures start { IfOk result (λ s. s.done ≡ 0) }
         ensures whole { IfOk result (λ s. s.whole ≡ whole) }
         ensures copied { IfOk result (λ s. (payloads : ℕ → List ℕ) (told : SinkTold) → HasCopied payloads told told s) }
     {
@@ -124,7 +125,7 @@ impl Copier {
         ensures loads { OnOk result (loads_of self.new.steps + 1 ≡ loads_of self.old.steps) }
         ensures behind { OnOk result ((k : ℕ) × (self.new.steps ≡ drop k self.old.steps)) }
         ensures over { OnErr result (wanted self.new ≡ None) }
-        ensures later { OnOk result ((K.told sink.old).faults ≤ (K.told sink.new).faults) }
+        ensures later { (K.told sink.old).faults ≤ (K.told sink.new).faults }
 
         // What holds with any payloads of which this is the wanted one.
         ensures ok { OnOk result ((payloads : ℕ → List ℕ) (before : SinkTold) → HasCopied payloads before (K.told sink.old) self.old

@@ -215,7 +215,7 @@ impl Progress {
         ensures loads { OnOk result (loads_of (seen_of self.new).steps + 1 ≡ loads_of (seen_of self.old).steps) }
         ensures behind { OnOk result ((k : ℕ) × ((seen_of self.new).steps ≡ drop k (seen_of self.old).steps)) }
         ensures over { OnErr result (self.new.done ≡ length self.old.spots.items) }
-        ensures later { OnOk result ((K.told sink.old).faults ≤ (K.told sink.new).faults) }
+        ensures later { (K.told sink.old).faults ≤ (K.told sink.new).faults }
 
         ensures ok { OnOk result ((payloads : ℕ → List ℕ) (before : SinkTold) → HasCopied payloads before (K.told sink.old) (seen_of self.old)
             → IsWanted payloads (seen_of self.old) payload.items

@@ -15,7 +15,7 @@ use Rattle.keeper_catalog.specs.Catalog.{set_info, table_at, versions_in}
 use Rattle.keeper_jobs.specs.Jobs.{tables_from, AreKeyed, uncommitted, version_by}
 use Rattle.keeper_jobs.proofs.Commits.{keyed, known_below, index_more, still_memo, done_memo, latest_is, in_range}
 use Rattle.keeper_jobs.proofs.Rooms.{one_version, one_goes, more_ids}
-use Rattle.keeper_jobs.proofs.Written.{recipe_goes, pushed_is, change_here, can_here, done_held, half_held, before_held, popped}
+use Rattle.keeper_jobs.proofs.Written.{recipe_goes, pushed_is, change_here, can_here, done_held, half_held, before_held, left_of, popped}
 use Rattle.keeper_jobs.proofs.committing.commit_recipe.Goals as goal
 
 pub prepare-requires-clause-keyed : goal.prepare-requires-clause-keyed
@@ -31,6 +31,15 @@ returns-in_default-clause-same_index g c K j cm = c.in_default.ensures.unchanged
 
 pub returns-in_default-clause-before : goal.returns-in_default-clause-before
 returns-in_default-clause-before g c r e K j waits cm held = before_held _ _ _ _ K j cm _ waits c.in_default.ensures.as_before _ _ refl held
+
+pub returns-in_default-clause-as_before : goal.returns-in_default-clause-as_before
+returns-in_default-clause-as_before g c r e = c.in_default.ensures.as_before
+
+pub returns-in-Ok-commit-clause-left : goal.returns-in-Ok-commit-clause-left
+returns-in-Ok-commit-clause-left g c K j cm =
+    left_of _ _ _ _ K j cm _
+    (c.note_commit.ensures.strays
+    ∙ ap (uncommitted (recipe_name c.args.job.set c.args.recipe.version) c.args.job.first c.args.job.next) (c.in-Ok.ensures.strays ∙ ap (λ (q : Name). c.args.catalog.now.strays.items ++ q ∷ []) (pushed_is _ _ _ _ K j cm)))
 
 pub returns-in-Ok-commit-clause-memo : goal.returns-in-Ok-commit-clause-memo
 returns-in-Ok-commit-clause-memo g c K j cm =
@@ -108,6 +117,10 @@ pub returns-in-Err-Before-clause-before : goal.returns-in-Err-Before-clause-befo
 returns-in-Err-Before-clause-before g c r e K j waits cm held =
     before_held _ _ _ _ K j cm _ waits (popped c.args.catalog.now.strays.items _ _ _ (ap (λ v. v.items) c.take_back.ensures.same.2 ∙ c.in-Ok.ensures.strays) (c.pop.ensures.rest ∙ ap (λ n. take (n - 1) c.take_back.new.catalog.strays.items) c.take_back.new.catalog.strays.ok.0)) _ _ (c.in-Err-Before.ensures.before c.in-Err-Before.refused (ap Err c.in-Err-Before.field-0-is)) held
 
+pub returns-in-Err-Before-clause-as_before : goal.returns-in-Err-Before-clause-as_before
+returns-in-Err-Before-clause-as_before g c r e =
+    popped c.args.catalog.now.strays.items _ _ _ (ap (λ v. v.items) c.take_back.ensures.same.2 ∙ c.in-Ok.ensures.strays) (c.pop.ensures.rest ∙ ap (λ n. take (n - 1) c.take_back.new.catalog.strays.items) c.take_back.new.catalog.strays.ok.0)
+
 pub returns-in-Err-Before-clause-any_moment : goal.returns-in-Err-Before-clause-any_moment
 returns-in-Err-Before-clause-any_moment g c K j cm held here =
     let spelled = c.deref.ensures.value ∙ c.in-Ok.ensures.blob in
@@ -125,6 +138,9 @@ returns-clause-same_index g c K j cm =
     let known : List Table = map (λ (d : Container). d.table) K.state.containers in
     c.take_back-in-Err-Half.ensures.index known (known_below _ _ _ _ K j cm)
     (subst (λ (t : List (ℕ × Table)). IsIndexOf c.prepare.new.index (known ++ tables_from t c.args.job.first (c.args.job.next - c.args.job.first))) (sym c.in-Ok.ensures.same.1) (c.in-Ok.ensures.added known cm.index_is))
+
+pub returns-clause-tried : goal.returns-clause-tried
+returns-clause-tried g c e = ap (λ v. v.items) c.take_back-in-Err-Half.ensures.same.2 ∙ c.in-Ok.ensures.strays
 
 pub returns-clause-half : goal.returns-clause-half
 returns-clause-half g c e K j cm held =

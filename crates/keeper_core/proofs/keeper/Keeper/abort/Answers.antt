@@ -15,3 +15,6 @@ pub returns-clause-aborts : goal.returns-clause-aborts
 returns-clause-aborts g c K keeps =
     let k = subst (λ (v : View). Keeps v K) (sym c.self.view_is) keeps in
     aborted _ K k c.in-Lent.job (ap job_of c.in-Lent.is) _ _ (c.requires.lent ∙ ap (λ (v : View). v.index) (sym c.self.view_is)) refl refl refl c.forget_tables.ensures.gone
+
+pub returns-clause-pins : goal.returns-clause-pins
+returns-clause-pins g c = ap (λ (v : View). v.pins) c.self.view_is

@@ -1,5 +1,5 @@
 use Rattle.std.proofs.Common.{◌+◌, ℕ, List, refl, sym, subst, ap, ◌∙◌, arith, map, length}
-use Rattle.std.specs.Prelude.{fold, max}
+use Rattle.std.specs.Prelude.{fold, max, IsSome}
 use Rattle.vault_types.specs.Events.{after_begin}
 use Rattle.vault_types.specs.declared.Fp.{Fp}
 use Rattle.vault_types.specs.Tables.{Container}
@@ -49,3 +49,21 @@ returns-clause-ok g c K keeps =
 
 pub returns-clause-core : goal.returns-clause-core
 returns-clause-core g c = let k = c.self.invariant.0 in (k.0, subst (λ (v : View). Keeps v k.0) c.self.view_is k.1)
+
+pub returns-in_err-sparse-clause-tells : goal.returns-in_err-sparse-clause-tells
+returns-in_err-sparse-clause-tells g c told = told
+
+pub returns-in_err-sparse-clause-pins : goal.returns-in_err-sparse-clause-pins
+returns-in_err-sparse-clause-pins g c = refl
+
+pub returns-in_err-mend_for-clause-tells : goal.returns-in_err-mend_for-clause-tells
+returns-in_err-mend_for-clause-tells g c told = c.mend_for.ensures.tells (subst (λ (v : View). IsSome v.told.blobs) (sym c.self.view_is) told)
+
+pub returns-in_err-mend_for-clause-pins : goal.returns-in_err-mend_for-clause-pins
+returns-in_err-mend_for-clause-pins g c = ap (λ (v : View). v.pins) c.self.view_is
+
+pub returns-clause-tells : goal.returns-clause-tells
+returns-clause-tells g c told = c.mend_for.ensures.tells (subst (λ (v : View). IsSome v.told.blobs) (sym c.self.view_is) told)
+
+pub returns-clause-pins : goal.returns-clause-pins
+returns-clause-pins g c = ap (λ (v : View). v.pins) c.self.view_is

@@ -1,6 +1,8 @@
-use Rattle.std.proofs.Common.{inl, inr, Some, None, refl, sym, subst, ap, ◌∙◌}
-use Rattle.std.specs.Prelude.{Err}
+use Rattle.std.proofs.Common.{[], ◌∷◌, ◌++◌, inl, inr, Some, None, refl, sym, subst, ap, ◌∙◌}
+use Rattle.std.specs.Prelude.{IsSome, Err}
+use Rattle.vault_types.specs.Shelf.{recipe_name}
 use Rattle.vault_types.specs.Events.{Core, Job, IsNear, commit_change}
+use Rattle.commit_laws.specs.Laws.{AreStraysLeft}
 use Rattle.vault_traits.specs.Crash.{LeavesNowIfTold, LeavesOnlyIfTold}
 use Rattle.vault_types.specs.declared.Pending.TheVariants.{FailedFor}
 use Rattle.keeper_catalog.specs.View.{View, Keeps}
@@ -90,3 +92,44 @@ returns-in-Err-Half-clause-err g c K j keeps fits =
     (commit_halved _ K k c.in-Lent.job job j c.args.recipe fits _ _ _ (λ w. c.in-Err-Half.ensures.still K j w cm) (c.in-Err-Half.ensures.same_index K j cm) (c.in-Err-Half.ensures.half (ap Err c.in-Err-Half.field-0-is) K j cm k.held))
     (λ here. subst (λ (v : View). LeavesOnlyIfTold v.told.history (g.S.Shelf.told c.commit_recipe.new.shelf).history (IsNear K.state (Some (commit_change (version_by K j c.args.recipe) j c.args.recipe K.state)))) c.self.view_is
     (c.in-Err-Half.ensures.any_moment K j cm k.held (subst (λ (v : View). LeavesNowIfTold v.told.history (IsNear K.state None)) (sym c.self.view_is) here)))
+
+pub returns-in-Ok-clause-tells : goal.returns-in-Ok-clause-tells
+returns-in-Ok-clause-tells g c told = c.commit_recipe.ensures.tells (subst (λ (v : View). IsSome v.told.blobs) (sym c.self.view_is) told)
+
+pub returns-in-Ok-clause-pins : goal.returns-in-Ok-clause-pins
+returns-in-Ok-clause-pins g c = ap (λ (v : View). v.pins) c.self.view_is
+
+pub returns-in-Err-Before-Memory-clause-tells : goal.returns-in-Err-Before-Memory-clause-tells
+returns-in-Err-Before-Memory-clause-tells g c told = c.commit_recipe.ensures.tells (subst (λ (v : View). IsSome v.told.blobs) (sym c.self.view_is) told)
+
+pub returns-in-Err-Before-Memory-clause-pins : goal.returns-in-Err-Before-Memory-clause-pins
+returns-in-Err-Before-Memory-clause-pins g c = ap (λ (v : View). v.pins) c.self.view_is
+
+pub returns-in-Err-Before-Failed-clause-tells : goal.returns-in-Err-Before-Failed-clause-tells
+returns-in-Err-Before-Failed-clause-tells g c told = c.commit_recipe.ensures.tells (subst (λ (v : View). IsSome v.told.blobs) (sym c.self.view_is) told)
+
+pub returns-in-Err-Before-Failed-clause-pins : goal.returns-in-Err-Before-Failed-clause-pins
+returns-in-Err-Before-Failed-clause-pins g c = ap (λ (v : View). v.pins) c.self.view_is
+
+pub returns-in-Err-Half-clause-tells : goal.returns-in-Err-Half-clause-tells
+returns-in-Err-Half-clause-tells g c told = c.commit_recipe.ensures.tells (subst (λ (v : View). IsSome v.told.blobs) (sym c.self.view_is) told)
+
+pub returns-in-Err-Half-clause-pins : goal.returns-in-Err-Half-clause-pins
+returns-in-Err-Half-clause-pins g c = ap (λ (v : View). v.pins) c.self.view_is
+
+pub returns-in-Err-Before-Memory-clause-strays : goal.returns-in-Err-Before-Memory-clause-strays
+returns-in-Err-Before-Memory-clause-strays g c = inl (c.in-Err-Before-Memory.ensures.as_before c.in-Err-Before-Memory.field-0-0 (ap Err c.in-Err-Before-Memory.field-0-is) ∙ ap (λ (v : View). v.memo.strays) c.self.view_is)
+
+pub returns-in-Err-Before-Failed-clause-strays : goal.returns-in-Err-Before-Failed-clause-strays
+returns-in-Err-Before-Failed-clause-strays g c = inl (c.in-Err-Before-Failed.ensures.as_before c.in-Err-Before-Failed.field-0-0 (ap Err c.in-Err-Before-Failed.field-0-is) ∙ ap (λ (v : View). v.memo.strays) c.self.view_is)
+
+pub returns-in-Err-Half-clause-strays : goal.returns-in-Err-Half-clause-strays
+returns-in-Err-Half-clause-strays g c =
+    inr (c.in-Err-Half.ensures.tried (ap Err c.in-Err-Half.field-0-is) ∙ ap (λ (v : View). v.memo.strays ++ recipe_name c.args.recipe.set c.args.recipe.version ∷ []) c.self.view_is, (_, refl))
+
+pub returns-in-Ok-clause-left : goal.returns-in-Ok-clause-left
+returns-in-Ok-clause-left g c K j keeps fits =
+    let k = subst (λ (v : View). Keeps v K) (sym c.self.view_is) keeps in
+    let job = ap job_of c.in-Lent.is in
+    let cm = commits_of _ K k c.in-Lent.job job j c.args.recipe fits c.args.index (c.requires.lent ∙ ap (λ (v : View). v.index) (sym c.self.view_is)) in
+    subst (λ (v : View). AreStraysLeft v.memo.strays (recipe_name j.set c.args.recipe.version) j.containers c.commit_recipe.new.catalog.strays.items) c.self.view_is (c.in-Ok.ensures.left K j cm)

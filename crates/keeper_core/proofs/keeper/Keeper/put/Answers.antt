@@ -1,5 +1,5 @@
 use Rattle.std.proofs.Common.{◌≡◌, ℕ, List, Option, Some, sym, subst, ap, ◌∙◌}
-use Rattle.std.specs.Prelude.{IsSomeAnd}
+use Rattle.std.specs.Prelude.{IsSome, IsSomeAnd}
 use Rattle.vault_types.specs.Tables.{IsWhole}
 use Rattle.vault_types.specs.Events.{after_put, after_refused}
 use Rattle.keeper_catalog.specs.declared.JobInfo.{JobInfo}
@@ -59,3 +59,15 @@ returns-in-Err-clause-err g c K keeps =
     let next = subst (λ (o : Option JobInfo). IsSomeAnd o (λ j. c.args.sealed.table.id ≡ j.next)) (ap (λ (v : View). v.job) (sym c.self.view_is) ∙ job) c.requires.next in
     put_refused _ K k c.in-Lent.job job _ _ _ _ _ _ (c.due_after-self-inside.ensures ∙ ap (λ (j : JobInfo). due_after c.in-Err.fault j.set c.self.inside.pending) c.in-Err.ensures.refused) (ap index_of (sym c.in-Lent.is)) (ap (λ (j : JobInfo). Some j) c.in-Err.ensures.refused ∙ sym job) c.in-Err.ensures.same.0 c.in-Err.ensures.same.1 c.in-Err.ensures.as_before
     (c.in-Err.ensures.held K (puts_of _ K k c.in-Lent.job job _ next) k.held)
+
+pub returns-in-Ok-clause-tells : goal.returns-in-Ok-clause-tells
+returns-in-Ok-clause-tells g c told = c.put_sealed.ensures.tells (subst (λ (v : View). IsSome v.told.blobs) (sym c.self.view_is) told)
+
+pub returns-in-Ok-clause-pins : goal.returns-in-Ok-clause-pins
+returns-in-Ok-clause-pins g c = ap (λ (v : View). v.pins) c.self.view_is
+
+pub returns-in-Err-clause-tells : goal.returns-in-Err-clause-tells
+returns-in-Err-clause-tells g c told = c.put_sealed.ensures.tells (subst (λ (v : View). IsSome v.told.blobs) (sym c.self.view_is) told)
+
+pub returns-in-Err-clause-pins : goal.returns-in-Err-clause-pins
+returns-in-Err-clause-pins g c = ap (λ (v : View). v.pins) c.self.view_is

@@ -1,6 +1,6 @@
 use Rattle.std.proofs.Common.{◌∙◌, sym, drop}
 use Rattle.std.proofs.lemmas.Result.{on_ok_weaker, IfErr-weaker}
-use Rattle.restore_assembler.proofs.Copied.{known_loaded, has_copied_more, has_copied_checked, whole_right, whole_wrong, taken_front, on_ok_from, wanted_some, steps_behind, spots_stay, whole_stays, summing_stays, late_stays, behind_checked}
+use Rattle.restore_assembler.proofs.Copied.{known_loaded, has_copied_more, has_copied_checked, whole_right, whole_wrong, taken_front, on_ok_from, wanted_some, steps_behind, spots_stay, rose_later, whole_stays, summing_stays, late_stays, behind_checked}
 use Rattle.restore_assembler.proofs.progress.Progress.give.Goals as goal
 
 pub returns-in-Err-clause-err : goal.returns-in-Err-clause-err
@@ -8,6 +8,9 @@ returns-in-Err-clause-err g c = λ f before copied given.
     let told = g.K.Sink.told in
     let known = known_loaded f c.args.self.now c.load.new.self c.in-Some.id c.args.payload c.load.ensures.present (sym c.wanted.ensures.next ∙ c.in-Some.is) given copied.known in
     taken_front f before (told c.args.sink.now) (told c.advance.new.sink) c.args.self.now c.load.new.self 0 copied c.load.ensures.stays (c.in-Err.ensures.err f known)
+
+pub returns-in-Err-clause-later : goal.returns-in-Err-clause-later
+returns-in-Err-clause-later g c = rose_later _ _ c.in-Err.ensures.failed
 
 pub returns-clause-ok : goal.returns-clause-ok
 returns-clause-ok g c = on_ok_from c.check.result (λ f before copied given.

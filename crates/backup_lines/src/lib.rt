@@ -1,0 +1,38 @@
+//! A backup's line on one thread: what `serial_backup` ensures is what the line is to do (`script_laws`), in each state that
+//! the keeper keeps.
+#![tactic(auto)]
+
+ghost use Rattle.std.specs.Prelude.{◌≡◌, ◌≤◌, None};
+ghost use Rattle.backup_pass.specs.Passing.{IsInRange};
+ghost use Rattle.script_laws.specs.Calls.{BacksUpLine};
+ghost use Rattle.serial_delete.specs.Keeping.{IsStateOf, IsKnownStray};
+
+use keeper_core::Keeper;
+use serial_backup::backup_plain;
+use std::alloc::Global;
+use vault_traits::{Shelf, Source};
+use vault_types::{Answer, Fault, JobConfig, Limits, Set};
+
+/// Backs what the source has left up into a set of the store, as its next version. `Full`, exactly where the set may
+/// have no version more or the ids may run out, and then nothing is done; else `Memory`, `StoreFault`, `ReadFault`,
+/// `TooMany`. After an `Err` the versions and the pins are as before; only a `StoreFault` may leave the new version on
+/// the shelf, until the next mending takes it back.
+pub fn backup_line<S: Shelf, I: Source>(
+    alloc: Global,
+    keeper: &mut Keeper<S>,
+    set: Set,
+    source: &mut I,
+    config: &JobConfig,
+    limits: &Limits,
+) -> Result<Answer, Fault>
+    requires no_job { keeper.old.job ≡ None }
+    requires config { IsInRange config.now }
+    requires low { 1 ≤ limits.now.chunks }
+    requires high { limits.now.chunks ≤ 4194304 }
+    requires last { limits.now.last ≤ 4294967294 }
+    ensures line { BacksUpLine (IsStateOf keeper.old) (IsStateOf keeper.new) (IsKnownStray keeper.old) (IsKnownStray keeper.new) limits.now set config.now keeper.old.told keeper.new.told (I.told source.old) (I.told source.new) result }
+    ensures same { (keeper.new.job ≡ None) × (keeper.new.pins ≡ keeper.old.pins) }
+{
+    keeper.keeps_some_core();
+    backup_plain(alloc, keeper, set, source, config, limits)
+}

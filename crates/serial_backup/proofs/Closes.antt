@@ -1,0 +1,398 @@
+-- The record of a backup.
+use Rattle.std.proofs.Common.{◌≡◌, ◌⊎◌, inl, inr, ⊎_elim, ℕ, ◌+◌, ◌<◌, ◌≤◌, ◌^◌, ◌||◌, Bool, true, false, List, [], ◌∷◌, map, Option, Some, None, refl, sym, ◌∙◌, ap, subst, arith}
+use Rattle.std.specs.Prelude.{Result, Ok, Err, IsErrAnd, IsSome, IsSomeAnd, IfSome, Contains, option_map, fold, max, nat_lt, nat_le, ◌++◌}
+use Rattle.std.proofs.lemmas.List.Elements.{Contains-push_cases}
+use Rattle.std.proofs.lemmas.Bool.Decides.{nat_tests}
+use Rattle.vault_types.specs.declared.Limits.{Limits}
+use Rattle.vault_types.specs.declared.Answer.{Answer}
+use Rattle.vault_types.specs.declared.Fault.{Fault}
+use Rattle.vault_types.specs.declared.Fault.TheVariants as fault
+use Rattle.vault_types.specs.declared.JobConfig.{JobConfig}
+use Rattle.vault_types.specs.declared.Name.{Name}
+use Rattle.vault_types.specs.declared.Pending.{Pending}
+use Rattle.vault_types.specs.declared.Pending.TheVariants as pending
+use Rattle.vault_types.specs.declared.Recipe.{Recipe}
+use Rattle.vault_types.specs.Names.{fp}
+use Rattle.vault_types.specs.Tables.{Container}
+use Rattle.vault_types.specs.State.{State, is_full, latest_of, next_of, next_in}
+use Rattle.vault_types.specs.Backup.{backup, after_filling, version_from}
+use Rattle.vault_types.specs.Shelf.{Blobs, recipe_name, Stands}
+use Rattle.vault_types.specs.Events.{Core, Change, Job, IsNear, IsCore, IsChange, CanCommit, after_commit, after_refused, after_abort, after_begin, commit_change, committed}
+use Rattle.vault_traits.specs.Told.{ShelfTold, SourceTold}
+use Rattle.vault_traits.specs.Crash.{LeavesNowIfTold, LeavesOnlyIfTold}
+use Rattle.vault_traits.proofs.Moments.{then, ends, more, more_now, stays}
+use Rattle.blob_parts.specs.Causes.{IsCause, IsUndamaged}
+use Rattle.commit_laws.specs.Laws.{AreStraysLeft}
+use Rattle.backup_pass.specs.Passing.{HasPassed, index_in}
+use Rattle.backup_pass.specs.declared.pass.Pass.{Pass}
+use Rattle.keeper_catalog.specs.declared.JobInfo.{JobInfo}
+use Rattle.keeper_catalog.specs.View.{View, Keeps, HasCore, job_info}
+use Rattle.keeper_jobs.specs.Jobs.{version_by}
+use Rattle.keeper_core.specs.declared.keeper.Begun.{Begun}
+use Rattle.keeper_core.specs.Calls.{IsBegun, IsHalf, IsShelfFault}
+use Rattle.serial_backup.specs.Backup.{IsBackupFault, IsJobName, IsRefused, MayBeStray, BacksUp, after_backup, full_fault}
+use Rattle.serial_backup.specs.Going.{Began, IsOf, IsUnderway, IsGoing, IsStopped, HasConcluded, job_core, job_with, made, rules_of}
+use Rattle.serial_backup.proofs.Jobs.{near_any, put_cause}
+use Rattle.serial_backup.proofs.Feeding.{gives_none, put_is_cause}
+use Rattle.serial_backup.proofs.Concluding.{made_is}
+
+-- the state after a commit of the definition's version is that after the backup
+commit_is : (b : Began) (K : Core) (read : List ℕ) → IsOf b K.state → committed (version_from K.state (made b read) (fp read) b.config) (job_with b.set (made b read).containers) K.state ≡ backup K.state b.set read b.config
+commit_is b K read of = ap (λ f. after_filling K.state b.set f (fp read) b.config) (sym (made_is b K.state read of))
+
+-- an error that came back
+
+err_again : (P : Result Answer Fault → Type 0) (f : Fault) → P (Err f) → (r : Result Answer Fault) → IsErrAnd r (λ e. e ≡ f) → P r
+err_again P f h (Ok a) e = absurd e
+err_again P f h (Err g) e = subst (λ (k : Fault). P (Err k)) (sym e) h
+
+-- a keeper without a job keeps the core as a refusal leaves it
+
+no_job : {X Y : Type 0} (f : X → Y) (o : Option X) → option_map f o ≡ None → o ≡ None
+no_job f None e = refl
+no_job {X} {Y} f (Some x) e = let clash : ◌≡◌ {A = Option Y} (Some (f x)) None = e in cc
+
+idle_keeps : (v : View) (K : Core) → Keeps v K → v.job ≡ None → Keeps v (after_refused K.other None v.memo.strays v.pending K)
+idle_keeps v K kept idle =
+    subst (λ (j : Option Job). Keeps v (after_refused K.other j v.memo.strays v.pending K)) (no_job (job_info K.state) K.job (sym kept.job ∙ idle))
+    (subst (λ (l : List Name). Keeps v (after_refused K.other K.job l v.pending K)) (sym kept.memo.strays)
+    (subst (λ (p : Pending). Keeps v (after_refused K.other K.job K.strays p K)) (sym kept.pending) kept))
+
+-- a set that is full
+
+pub full_backs_up : (s : ℕ) (config : JobConfig) (limits : Limits) (v : View) (from : SourceTold) (latest next : ℕ) → v.job ≡ None
+    → ((K : Core) → Keeps v K → is_full K.state s limits ≡ true) → ((K : Core) → Keeps v K → latest ≡ latest_of K.state s) → ((K : Core) → Keeps v K → next ≡ next_of K.state)
+    → BacksUp s config limits v v from from (Err (fault.Full s latest next))
+full_backs_up s config limits v from latest next idle full latest_is next_is = record {
+  read = [];
+  given = gives_none from.left;
+  to_the_end = tt;
+  few = tt;
+  full = λ K kept is. (ap (λ f. Err f) (same K kept), refl, refl);
+  answer = tt;
+  causes = λ K kept. inl (full K kept, same K kept);
+  done = tt;
+  refused = λ K kept. record {
+    other = K.other;
+    keeps = idle_keeps v K kept idle;
+    half = inl (refl, refl);
+    strays = λ n among. inl among;
+    any_moment = λ images. stays (λ c. IsNear K.state K.other c ⊎ IsNear K.state K.other c) v.told.history v.told.history refl
+        (more_now (IsNear K.state K.other) (λ c. IsNear K.state K.other c ⊎ IsNear K.state K.other c) (λ c near. inl near) v.told.history images);
+    behind = λ images. images;
+  };
+  idle = idle;
+  pins = refl;
+  strays = tt;
+  tells = λ told. told;
+  gets = refl;
+  store_later = omega arith;
+  source_later = omega arith;
+  crash = λ K kept images. stays (λ c. IsNear K.state K.other c ⊎ Stands c (backup K.state s [] config)) v.told.history v.told.history refl
+      (more_now (IsNear K.state K.other) (λ c. IsNear K.state K.other c ⊎ Stands c (backup K.state s [] config)) (λ c near. inl near) v.told.history images);
+  crash_after = tt;
+}
+  where
+    same : (K : Core) → Keeps v K → fault.Full s latest next ≡ full_fault s K.state
+    same K kept = let one = latest_is K kept in let two = next_is K kept in ap (λ l. fault.Full s l next) one ∙ ap (λ n. fault.Full s (latest_of K.state s) n) two
+
+-- a job that could not begin
+
+start_of : ℕ → JobConfig → Limits → View → SourceTold → Began
+start_of s config limits v from = record { set = s; version = 0; config = config; limits = limits; first = 0; sparse = []; index = []; keeper = v; source = from }
+
+begin_cause : (s : ℕ) (config : JobConfig) (limits : Limits) (v w : View) (from : SourceTold) (f : Fault) → IsCause v.told.faults w.told.faults IsUndamaged f → IsBackupFault config limits v.told.faults w.told.faults from from [] f
+unfolding start_of
+begin_cause s config limits v w from f cause = put_is_cause (start_of s config limits v from) w from [] f (put_cause v.told.faults v.told.faults w.told.faults (omega arith) f cause)
+
+module _ (s : ℕ) (config : JobConfig) (limits : Limits) (v w : View) (from : SourceTold) (roomy : (K : Core) → Keeps v K → is_full K.state s limits ≡ true → ⊥) where
+  pub begin_backs_up : (f : Fault) → ((K : Core) → Keeps v K → Keeps w K) → w.job ≡ None → IsCause v.told.faults w.told.faults IsUndamaged f → v.told.faults ≤ w.told.faults → w.told.gets ≡ v.told.gets
+      → w.pins ≡ v.pins → (IsSome v.told.blobs → IsSome w.told.blobs)
+      → ((K : Core) → Keeps v K → LeavesNowIfTold v.told.history (IsNear K.state K.other) → LeavesOnlyIfTold v.told.history w.told.history (IsNear K.state K.other))
+      → (r : Result Answer Fault) → IsErrAnd r (λ e. e ≡ f) → BacksUp s config limits v w from from r
+  begin_backs_up f keeps idle cause later gets pins tells moment = err_again (BacksUp s config limits v w from from) f (record {
+    read = [];
+    given = gives_none from.left;
+    to_the_end = tt;
+    few = tt;
+    full = λ K kept is. absurd (roomy K kept is);
+    answer = tt;
+    causes = λ K kept. inr (begin_cause s config limits v w from f cause);
+    done = tt;
+    refused = λ K kept. record {
+      other = K.other;
+      keeps = idle_keeps w K (keeps K kept) idle;
+      half = inl (refl, refl);
+      strays = λ n among. inl (subst (λ (l : List Name). Contains l n) ((keeps K kept).memo.strays ∙ sym kept.memo.strays) among);
+      any_moment = λ images. more (IsNear K.state K.other) (λ c. IsNear K.state K.other c ⊎ IsNear K.state K.other c) (λ c near. inl near) v.told.history w.told.history (moment K kept images);
+      behind = λ images. ends (IsNear K.state K.other) v.told.history w.told.history (moment K kept images);
+    };
+    idle = idle;
+    pins = pins;
+    strays = tt;
+    tells = tells;
+    gets = gets;
+    store_later = later;
+    source_later = omega arith;
+    crash = λ K kept images. more (IsNear K.state K.other) (λ c. IsNear K.state K.other c ⊎ Stands c (backup K.state s [] config)) (λ c near. inl near) v.told.history w.told.history (moment K kept images);
+    crash_after = tt;
+  })
+
+-- a job that began
+
+abbrev pub began_by : ℕ → JobConfig → Limits → View → SourceTold → Begun → Began
+began_by s config limits v from begun = record { set = s; version = begun.version; config = config; limits = limits; first = begun.next; sparse = begun.sparse.items; index = begun.index; keeper = v; source = from }
+
+pub told_by : (s : ℕ) (config : JobConfig) (limits : Limits) (v : View) (from : SourceTold) (begun : Begun) (S : State) → IsBegun S s begun → IsOf (began_by s config limits v from begun) S
+told_by s config limits v from begun S h = record { version = h.version; first = h.next; sparse = h.sparse; index = h.index }
+
+other_none : (K : Core) → IsCore K → K.pending ≡ pending.Not → K.other ≡ None
+other_none K core is = step K.other core.other
+  where
+    step : (o : Option Change) → IfSome o (λ h. (s : ℕ) × (K.pending ≡ pending.FailedFor s) × IsChange K.state s h) → o ≡ None
+    step None h = refl
+    step (Some x) h = absurd (let clash : pending.FailedFor h.0 ≡ pending.Not = sym h.1 ∙ is in cc)
+
+fold_low : (a : ℕ) (ns : List ℕ) → a ≤ fold max a ns
+fold_low a [] = omega arith
+fold_low a (n ∷ ns) = let h : max a n ≤ fold max (max a n) ns = fold_low (max a n) ns in omega arith
+
+room_is : (S : State) (s : ℕ) (limits : Limits) → (is_full S s limits ≡ true → ⊥) → (latest_of S s < limits.last) × (next_of S + limits.chunks ≤ 2 ^ 63)
+room_is S s limits roomy = step (nat_le limits.last (latest_of S s)) (nat_lt (2 ^ 63) (next_of S + limits.chunks)) refl refl roomy
+  where
+    step : (a b : Bool) → nat_le limits.last (latest_of S s) ≡ a → nat_lt (2 ^ 63) (next_of S + limits.chunks) ≡ b → ((a || b) ≡ true → ⊥) → (latest_of S s < limits.last) × (next_of S + limits.chunks ≤ 2 ^ 63)
+    step true b e f none = absurd (none refl)
+    step false true e f none = absurd (none refl)
+    step false false e f none = (grind (arith, nat_tests), grind (arith, nat_tests))
+
+module _ (b : Began) (now : View) (core : HasCore b.keeper) (roomy : (K : Core) → Keeps b.keeper K → is_full K.state b.set b.limits ≡ true → ⊥) (told : (K : Core) → Keeps b.keeper K → IsOf b K.state) where
+  room : (b.version ≤ b.limits.last) × (b.first + b.limits.chunks ≤ 2 ^ 63)
+  room =
+      let K = core.0 in
+      let of = told K core.1 in
+      let is = room_is K.state b.set b.limits (roomy K core.1) in
+      (omega (arith, is.0, of.version), omega (arith, is.1, of.first))
+
+  pub low : 1 ≤ b.first
+  low = let K = core.0 in omega (arith, (told K core.1).first, fold_low 1 (map next_in K.state.datasets))
+
+  pub high : b.first ≤ 2 ^ 63
+  high = omega (arith, room.1)
+
+  module _ (set : b.set < 256) (most : b.limits.chunks ≤ 4194304) (last : b.limits.last ≤ 4294967294) (keeps : (K : Core) → Keeps b.keeper K → Keeps now (after_begin b.set K.strays K)) (lent : now.index ≡ b.index)
+      (moment : (K : Core) → Keeps b.keeper K → LeavesNowIfTold b.keeper.told.history (IsNear K.state K.other) → LeavesOnlyIfTold b.keeper.told.history now.told.history (IsNear K.state K.other))
+      (mended : (b.keeper.pending ≡ pending.Not → ⊥) → (K : Core) → Keeps b.keeper K → LeavesNowIfTold now.told.history (IsNear K.state None))
+      (gets : now.told.gets ≡ b.keeper.told.gets) (later : b.keeper.told.faults ≤ now.told.faults) (pins : now.pins ≡ b.keeper.pins) (tells : IsSome b.keeper.told.blobs → IsSome now.told.blobs) where
+    images : (K : Core) → Keeps b.keeper K → LeavesNowIfTold b.keeper.told.history (IsNear K.state K.other) → LeavesNowIfTold now.told.history (IsNear K.state None)
+    images K kept before = step b.keeper.pending refl
+      where
+        step : (p : Pending) → b.keeper.pending ≡ p → LeavesNowIfTold now.told.history (IsNear K.state None)
+        step pending.Not e = subst (λ (o : Option Change). LeavesNowIfTold now.told.history (IsNear K.state o)) (other_none K kept.core (sym kept.pending ∙ e))
+            (ends (IsNear K.state K.other) b.keeper.told.history now.told.history (moment K kept before))
+        step pending.Opened e = mended (λ n. let clash : pending.Opened ≡ pending.Not = sym e ∙ n in cc) K kept
+        step (pending.FailedFor m) e = mended (λ n. let clash : pending.FailedFor m ≡ pending.Not = sym e ∙ n in cc) K kept
+
+    as_before : (n : Name) → Contains now.memo.strays n → Contains b.keeper.memo.strays n
+    as_before n among = subst (λ (l : List Name). Contains l n) ((keeps core.0 core.1).memo.strays ∙ sym core.1.memo.strays) among
+
+    pub begins : IsUnderway b now []
+    begins = record {
+      core = core;
+      told = told;
+      set = set;
+      version = omega (arith, room.0);
+      fits = room.1;
+      low = low;
+      most = most;
+      keeps = λ K kept.
+          let k = keeps K kept in
+          subst (λ (l : List Name). Keeps now (after_refused None (Some (job_with b.set [])) l now.pending K)) (sym k.memo.strays)
+          (subst (λ (p : Pending). Keeps now (after_refused None (Some (job_with b.set [])) K.strays p K)) (sym k.pending) k);
+      lent = lent;
+      pins = pins;
+      tells = tells;
+      strays = λ n among. inl (as_before n among);
+      later = later;
+      gets = gets;
+      crash = moment;
+      images = images;
+    }
+
+    pub starts : (pass : Pass) → HasPassed pass (rules_of b) b.limits.chunks b.first [] [] → index_in pass ≡ b.index → IsGoing b now b.source pass [] []
+    starts pass passed index = record {
+      given = gives_none b.source.left;
+      source_later = omega arith;
+      fed = record { containers = []; underway = begins; passed = passed; index = index; waits = (keeps core.0 core.1).pending; named = record { each = λ n among. inl (as_before n among) }; lens_are = refl };
+    }
+
+-- a job stands while it is under way
+
+pub in_job_of : (b : Began) (now : View) (containers : List Container) → IsUnderway b now containers → IsSome now.job
+in_job_of b now containers h = let K = h.core.0 in subst (λ (o : Option JobInfo). IsSome o) (sym (h.keeps K h.core.1).job) refl
+
+module _ (b : Began) (roomy : (K : Core) → Keeps b.keeper K → is_full K.state b.set b.limits ≡ true → ⊥) where
+  -- what is a stray of the job may be one after a refusal
+  of_job : (before : View) (containers : List Container) → IsUnderway b before containers → (K : Core) → Keeps b.keeper K → (f : Fault) (n : Name) → Contains before.memo.strays n → MayBeStray b.set b.limits b.keeper K f n
+  of_job before containers h K kept f n among =
+      ⊎_elim (λ old. inl old) (λ put. inr (inl (subst (λ (first : ℕ). IsJobName first b.limits.chunks n) (h.told K kept).first put))) (h.strays n among)
+
+  -- a fault before the commit, and then the job is over
+  pub stopped_backs_up : (before now : View) (to : SourceTold) (f : Fault) → IsStopped b before to f → ((K : Core) → Keeps before K → Keeps now (after_abort K)) → now.told ≡ before.told → now.memo.strays ≡ before.memo.strays → now.pending ≡ before.pending → now.pins ≡ before.pins
+      → BacksUp b.set b.config b.limits b.keeper now b.source to (Err f)
+  stopped_backs_up before now to f h aborts told strays waits pins = record {
+    read = h.read;
+    given = h.given;
+    to_the_end = tt;
+    few = tt;
+    full = λ K kept is. absurd (roomy K kept is);
+    answer = tt;
+    causes = λ K kept. inr (subst (λ (n : ℕ). IsBackupFault b.config b.limits b.keeper.told.faults n b.source to h.read f) (sym (ap (λ (t : ShelfTold). t.faults) told)) h.cause);
+    done = tt;
+    refused = λ K kept. record {
+      other = None;
+      keeps = subst (λ (l : List Name). Keeps now (after_refused None None l now.pending K)) (sym strays)
+          (subst (λ (p : Pending). Keeps now (after_refused None None before.memo.strays p K)) (sym waits) (aborts (job_core b.set h.containers before K) (h.underway.keeps K kept)));
+      half = inr (inl refl);
+      strays = λ n among. of_job before h.containers h.underway K kept f n (subst (λ (l : List Name). Contains l n) strays among);
+      any_moment = λ images. more (IsNear K.state K.other) (λ c. IsNear K.state K.other c ⊎ IsNear K.state None c) (λ c near. inl near) b.keeper.told.history now.told.history
+          (subst (λ (t : ShelfTold). LeavesOnlyIfTold b.keeper.told.history t.history (IsNear K.state K.other)) (sym told) (h.underway.crash K kept images));
+      behind = λ images. subst (λ (t : ShelfTold). LeavesNowIfTold t.history (IsNear K.state None)) (sym told) (h.underway.images K kept images);
+    };
+    idle = (aborts (job_core b.set h.containers before h.underway.core.0) (h.underway.keeps h.underway.core.0 h.underway.core.1)).job;
+    pins = pins ∙ h.underway.pins;
+    strays = tt;
+    tells = λ some. subst (λ (t : ShelfTold). IsSome t.blobs) (sym told) (h.underway.tells some);
+    gets = ap (λ (t : ShelfTold). t.gets) told ∙ h.underway.gets;
+    store_later = omega (arith, ap (λ (t : ShelfTold). t.faults) told, h.underway.later);
+    source_later = h.source_later;
+    crash = λ K kept images.
+        more (IsNear K.state K.other) (λ c. IsNear K.state K.other c ⊎ Stands c (backup K.state b.set h.read b.config)) (λ c near. inl near) b.keeper.told.history now.told.history
+        (subst (λ (t : ShelfTold). LeavesOnlyIfTold b.keeper.told.history t.history (IsNear K.state K.other)) (sym told) (h.underway.crash K kept images));
+    crash_after = tt;
+  }
+
+  module _ (before now : View) (to : SourceTold) (p : Recipe × Answer) (h : HasConcluded b before to p) where
+    abbrev containers : List Container
+    containers = (made b h.read).containers
+
+    abbrev core_of : Core → Core
+    core_of K = job_core b.set containers before K
+
+    abbrev job : Job
+    job = job_with b.set containers
+
+    abbrev change_of : Core → Change
+    change_of K = commit_change (version_by (core_of K) job p.0) job p.0 K.state
+
+    state_is : (K : Core) → Keeps b.keeper K → committed (version_by (core_of K) job p.0) job K.state ≡ backup K.state b.set h.read b.config
+    state_is K kept = ap (λ k. committed k job K.state) (h.ready.says K kept) ∙ commit_is b K h.read (h.underway.told K kept)
+
+    module _ (moment : (K : Core) (j : Job) → Keeps before K → CanCommit K j p.0 → LeavesNowIfTold before.told.history (IsNear K.state None)
+        → LeavesOnlyIfTold before.told.history now.told.history (IsNear K.state (Some (commit_change (version_by K j p.0) j p.0 K.state)))) (gets : now.told.gets ≡ before.told.gets) (later : before.told.faults ≤ now.told.faults) (pins : now.pins ≡ before.pins) (tells : IsSome before.told.blobs → IsSome now.told.blobs) where
+      wider : (K : Core) → Keeps b.keeper K → (c : Blobs) → IsNear K.state (Some (change_of K)) c → IsNear K.state K.other c ⊎ Stands c (backup K.state b.set h.read b.config)
+      wider K kept c (inl stands) = inl (inl stands)
+      wider K kept c (inr has) = inr (subst (Stands c) (state_is K kept) has.other)
+
+      crash : (K : Core) → Keeps b.keeper K → LeavesNowIfTold b.keeper.told.history (IsNear K.state K.other)
+          → LeavesOnlyIfTold b.keeper.told.history now.told.history (λ c. IsNear K.state K.other c ⊎ Stands c (backup K.state b.set h.read b.config))
+      crash K kept images =
+          then (λ c. IsNear K.state K.other c ⊎ Stands c (backup K.state b.set h.read b.config)) b.keeper.told.history before.told.history now.told.history
+          (more (IsNear K.state K.other) (λ c. IsNear K.state K.other c ⊎ Stands c (backup K.state b.set h.read b.config)) (λ c near. inl near) b.keeper.told.history before.told.history (h.underway.crash K kept images))
+          (more (IsNear K.state (Some (change_of K))) (λ c. IsNear K.state K.other c ⊎ Stands c (backup K.state b.set h.read b.config)) (wider K kept) before.told.history now.told.history
+          (moment (core_of K) job (h.underway.keeps K kept) (h.ready.can K kept) (h.underway.images K kept images)))
+
+      pub commit_backs_up : ((K : Core) (j : Job) → Keeps before K → CanCommit K j p.0 → Keeps now (after_commit (version_by K j p.0) j now.memo.strays K))
+          → ((K : Core) (j : Job) → Keeps before K → CanCommit K j p.0 → LeavesNowIfTold now.told.history (IsNear (committed (version_by K j p.0) j K.state) None))
+          → ((K : Core) (j : Job) → Keeps before K → CanCommit K j p.0 → AreStraysLeft before.memo.strays (recipe_name j.set p.0.version) j.containers now.memo.strays)
+          → BacksUp b.set b.config b.limits b.keeper now b.source to (Ok p.1)
+      commit_backs_up ok acked left = record {
+        read = h.read;
+        given = h.given;
+        to_the_end = h.end;
+        few = h.few;
+        full = λ K kept is. absurd (roomy K kept is);
+        answer = λ K kept. h.ready.answer K kept;
+        causes = tt;
+        done = λ K kept.
+            let k = ok (core_of K) job (h.underway.keeps K kept) (h.ready.can K kept) in
+            subst (λ (w : Pending). Keeps now (after_backup b.set h.read b.config now.memo.strays w K)) (sym k.pending)
+            (subst (λ (T : State). Keeps now (record { state = T; other = None; pins = K.pins; strays = now.memo.strays; job = None; pending = before.pending })) (state_is K kept) k);
+        refused = tt;
+        idle = (ok (core_of h.underway.core.0) job (h.underway.keeps h.underway.core.0 h.underway.core.1) (h.ready.can h.underway.core.0 h.underway.core.1)).job;
+        pins = pins ∙ h.underway.pins;
+        strays = λ n among.
+            let were = (left (core_of h.underway.core.0) job (h.underway.keeps h.underway.core.0 h.underway.core.1) (h.ready.can h.underway.core.0 h.underway.core.1)).were n among in
+            ⊎_elim (λ old. old) (λ put. absurd (were.2 put)) (h.named.each n were.0);
+        tells = λ some. tells (h.underway.tells some);
+        gets = gets ∙ h.underway.gets;
+        store_later = omega (arith, h.underway.later);
+        source_later = h.source_later;
+        crash = crash;
+        crash_after = λ K kept images.
+            more_now (IsNear (committed (version_by (core_of K) job p.0) job K.state) None) (λ c. Stands c (backup K.state b.set h.read b.config)) (only K kept) now.told.history
+            (acked (core_of K) job (h.underway.keeps K kept) (h.ready.can K kept));
+      }
+        where
+          only : (K : Core) → Keeps b.keeper K → (c : Blobs) → IsNear (committed (version_by (core_of K) job p.0) job K.state) None c → Stands c (backup K.state b.set h.read b.config)
+          only K kept c (inl stands) = subst (Stands c) (state_is K kept) stands
+          only K kept c (inr has) = absurd has
+
+      module _ (f : Fault) (cause : IsCause before.told.faults now.told.faults IsUndamaged f)
+          (strays : (now.memo.strays ≡ before.memo.strays) ⊎ ((now.memo.strays ≡ before.memo.strays ++ recipe_name p.0.set p.0.version ∷ []) × IsShelfFault f))
+          (half : (K : Core) (j : Job) → Keeps before K → CanCommit K j p.0 → IsHalf before now (commit_change (version_by K j p.0) j p.0 K.state) None f K) where
+        name_is : (K : Core) → Keeps b.keeper K → recipe_name p.0.set p.0.version ≡ recipe_name b.set (latest_of K.state b.set + 1)
+        name_is K kept = let can = h.ready.can K kept in ap (λ s. recipe_name s p.0.version) can.set ∙ ap (λ v. recipe_name b.set v) can.version
+
+        stray_may_be : (K : Core) → Keeps b.keeper K → (n : Name) → Contains now.memo.strays n → MayBeStray b.set b.limits b.keeper K f n
+        stray_may_be K kept n among = ⊎_elim
+            (λ same. of_job before containers h.underway K kept f n (subst (λ (l : List Name). Contains l n) same among))
+            (λ more. ⊎_elim
+            (λ old. of_job before containers h.underway K kept f n old)
+            (λ is. inr (inr (sym is ∙ name_is K kept, more.1)))
+            (Contains-push_cases before.memo.strays (recipe_name p.0.set p.0.version) n (subst (λ (l : List Name). Contains l n) more.0 among)))
+            strays
+
+        refused_core : (K : Core) → Keeps b.keeper K → IsRefused b.set b.config b.limits h.read b.keeper now b.source to K f
+        refused_core K kept = record {
+          other = left.other;
+          keeps = left.keeps;
+          half = inr (⊎_elim
+              (λ none. inl none)
+              (λ some. inr (subst (λ (o : Option Change). IsSomeAnd o (λ x. x.state ≡ backup K.state b.set h.read b.config)) (sym some.0) (state_is K kept), h.end, some.1))
+              left.half);
+          strays = stray_may_be K kept;
+          any_moment = λ images.
+              then either b.keeper.told.history before.told.history now.told.history
+              (more (IsNear K.state K.other) either (λ c near. inl near) b.keeper.told.history before.told.history (h.underway.crash K kept images))
+              (more (λ c. IsNear K.state None c ⊎ IsNear K.state left.other c) either (λ c near. ⊎_elim (λ here. inl (near_any K.state K.other c here)) (λ there. inr there) near) before.told.history now.told.history
+              (left.any_moment (h.underway.images K kept images)));
+          behind = λ images. left.behind (h.underway.images K kept images);
+        }
+          where
+            left : IsHalf before now (change_of K) None f (core_of K)
+            left = half (core_of K) job (h.underway.keeps K kept) (h.ready.can K kept)
+
+            either : Blobs → Type 0
+            either c = IsNear K.state K.other c ⊎ IsNear K.state left.other c
+
+        pub refused_backs_up : (r : Result Answer Fault) → IsErrAnd r (λ e. e ≡ f) → BacksUp b.set b.config b.limits b.keeper now b.source to r
+        refused_backs_up = err_again (BacksUp b.set b.config b.limits b.keeper now b.source to) f (record {
+          read = h.read;
+          given = h.given;
+          to_the_end = tt;
+          few = tt;
+          full = λ K kept is. absurd (roomy K kept is);
+          answer = tt;
+          causes = λ K kept. inr (put_is_cause b now to h.read f (put_cause b.keeper.told.faults before.told.faults now.told.faults h.underway.later f cause));
+          done = tt;
+          refused = refused_core;
+          idle = (refused_core h.underway.core.0 h.underway.core.1).keeps.job;
+          pins = pins ∙ h.underway.pins;
+          strays = tt;
+          tells = λ some. tells (h.underway.tells some);
+          gets = gets ∙ h.underway.gets;
+          store_later = omega (arith, h.underway.later);
+          source_later = h.source_later;
+          crash = crash;
+          crash_after = tt;
+        })

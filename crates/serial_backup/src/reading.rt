@@ -1,0 +1,85 @@
+// The stream is read piece by piece, and each goes through the pass.
+ghost use Rattle.std.specs.Prelude.{◌≡◌, ◌<◌, ◌≤◌, List, ℕ, OnOk, IfOk, IfErr, map, length, [], ◌∷◌, ◌++◌};
+ghost use Rattle.backup_pass.specs.Passing.{index_in};
+ghost use Rattle.serial_backup.specs.Backup.{IsAtEnd};
+ghost use Rattle.serial_backup.specs.Going.{Began, IsFed, IsHalted, IsTooMany, IsGoing, HasGone, IsStopped};
+
+use crate::putting::put_all;
+use backup_pass::Pass;
+use keeper_core::Keeper;
+use std::alloc::Global;
+use vault_traits::{Failed, Shelf, Source};
+use vault_types::Fault;
+
+// Feeds a piece, and puts the containers that it fills.
+fn feed<S: Shelf>(
+    alloc: Global,
+    keeper: &mut Keeper<S>,
+    pass: &mut Pass,
+    lens: &mut Vec<u32>,
+    piece: &[u8],
+) -> Result<(), Fault>
+    requires { (b : Began) × (read : List ℕ) × IsFed b keeper.old pass.old lens.old.items read }
+    ensures index { index_in pass.new ≡ index_in pass.old }
+    ensures ok { (b : Began) (read : List ℕ) → IsFed b keeper.old pass.old lens.old.items read
+        → OnOk result (IsFed b keeper.new pass.new lens.new.items (read ++ piece.now)) }
+    ensures err { (b : Began) (read : List ℕ) → IsFed b keeper.old pass.old lens.old.items read
+        → IfErr result (IsHalted b keeper.new (IsTooMany b (read ++ piece.now))) }
+{
+    let mut full = Vec::new(alloc);
+    pass.feed(alloc, piece, &mut full)?;
+    put_all(alloc, keeper, full, lens)
+}
+
+// Reads a piece, which has room for at least one byte, and feeds it. None is the end.
+fn advance<S: Shelf, I: Source>(
+    alloc: Global,
+    keeper: &mut Keeper<S>,
+    source: &mut I,
+    pass: &mut Pass,
+    lens: &mut Vec<u32>,
+    piece: &mut [u8],
+) -> Result<usize, Fault>
+    requires room { 0 < length piece.old }
+    requires going { (b : Began) × (read : List ℕ) × IsGoing b keeper.old (I.told source.old) pass.old lens.old.items read }
+    ensures room { length piece.new ≡ length piece.old }
+    ensures index { index_in pass.new ≡ index_in pass.old }
+    ensures ok { (b : Began) (read : List ℕ) → IsGoing b keeper.old (I.told source.old) pass.old lens.old.items read
+        → IfOk result (HasGone b keeper.new (I.told source.new) pass.new lens.new.items read) }
+    ensures err { (b : Began) (read : List ℕ) → IsGoing b keeper.old (I.told source.old) pass.old lens.old.items read
+        → IfErr result (IsStopped b keeper.new (I.told source.new)) }
+{
+    let n = match source.read(piece) {
+        Ok(n) => n,
+        Err(Failed) => return Err(Fault::ReadFault(source.faults())),
+    };
+    feed(alloc, keeper, pass, lens, &piece[..n])?;
+    Ok(n)
+}
+
+// Reads to the end.
+pub(crate) fn read_all<S: Shelf, I: Source>(
+    alloc: Global,
+    keeper: &mut Keeper<S>,
+    source: &mut I,
+    pass: &mut Pass,
+    lens: &mut Vec<u32>,
+) -> Result<(), Fault>
+    requires { (b : Began) × IsGoing b keeper.old (I.told source.old) pass.old lens.old.items [] }
+    ensures index { index_in pass.new ≡ index_in pass.old }
+    ensures ok { (b : Began) → IsGoing b keeper.old (I.told source.old) pass.old lens.old.items []
+        → OnOk result ((read : List ℕ) × IsGoing b keeper.new (I.told source.new) pass.new lens.new.items read × IsAtEnd (I.told source.new)) }
+    ensures err { (b : Began) → IsGoing b keeper.old (I.told source.old) pass.old lens.old.items []
+        → IfErr result (IsStopped b keeper.new (I.told source.new)) }
+{
+    let mut room = Vec::with_capacity(alloc, 65_536)?;
+    room.resize(65_536, 0)?;
+    let piece = room.as_mut_slice();
+    for _turn in 0..u64::MAX {
+        if advance(alloc, keeper, source, pass, lens, piece)? == 0 {
+            return Ok(());
+        }
+    }
+    // the limit of chunks comes first
+    unreachable!()
+}

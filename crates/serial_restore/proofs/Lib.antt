@@ -1,0 +1,9 @@
+pub mod Chunks
+pub mod Damages
+pub mod Faults
+pub mod Goings
+pub mod Lines
+pub mod Loads
+pub mod Plans
+pub mod Restores
+pub mod Versions

@@ -4,33 +4,29 @@ use Rattle.vault_types.specs.declared.Limits.{Limits}
 use Rattle.vault_types.specs.declared.Command.{Command}
 use Rattle.vault_types.specs.declared.Command.TheVariants as command
 use Rattle.vault_types.specs.declared.Fault.{Fault}
-use Rattle.vault_types.specs.declared.Fault.TheVariants as fault
 use Rattle.vault_types.specs.declared.Answer.{Answer}
 use Rattle.vault_types.specs.Words.{command_of}
 use Rattle.vault_types.specs.declared.Line.{Line}
-use Rattle.vault_types.specs.Bytes.{IsSound}
-use Rattle.vault_types.specs.State.{State}
 use Rattle.vault_traits.specs.Told.{SourceTold}
 use Rattle.script_laws.specs.Leaves.{Begins}
 use Rattle.script_laws.specs.Script.{RunsLines}
 use Rattle.script_laws.specs.Strays.{StraysOf}
 use Rattle.run_laws.specs.World.{World, status_after, IsPrinted, IsTold, report_text}
-use Rattle.run_laws.specs.Early.{CanOpen, EndsEarly, IsStartFault, IsSameBut}
-use Rattle.run_laws.specs.Courses.{RunsBatch, RunsBackup, RunsRestore, RunsDelete, RunsShow, RunsFill}
+use Rattle.run_laws.specs.Early.{EndsEarly, IsStartFault, IsSameBut}
+use Rattle.run_laws.specs.Courses.{RunsBatch, RunsBackup, RunsRestore, RunsDelete, RunsShow}
 
 -- what a run of a command is, from its first line on
 abbrev pub Course : Type 1
 Course = Limits → World → World → List Answer → Option Fault → Type 0
 
--- the scripts, and `show`. What the other commands do is given: a backup with the sampled index, a restore by areas, and
--- those that are no script
+-- the scripts from words and from the input, and `show`. What the other commands do is given: a backup with the sampled
+-- index, a restore by areas, `fill`, and those that are no script
 abbrev pub Runs : (Command → Course) → Command → Course
 Runs Others (command.Backup set config queue lanes None) limits before now answers f = RunsBackup set config limits before now answers f
 Runs Others (command.Restore set version cache None) limits before now answers f = RunsRestore set version cache limits before now answers f
 Runs Others (command.Delete set through) limits before now answers f = RunsDelete set through limits before now answers f
 Runs Others (command.Show set version) limits before now answers f = RunsShow set version before now answers f
 Runs Others (command.Batch queue lanes workers) limits before now answers f = RunsBatch limits before now answers f
-Runs Others (command.Fill seed versions queue lanes workers) limits before now answers f = RunsFill seed versions limits before now answers f
 Runs Others other limits before now answers f = Others other limits before now answers f
 
 -- a run of the words: it ends before its first line, with a fault that has its cause, or it runs as the command says
@@ -47,12 +43,6 @@ pub record NoneRose (before now : World) : Type 0 where
   pub input : (now.input.faults ≡ before.input.faults) × (before.input.faults < 2 ^ 64 - 1)
   pub out : (now.out.faults ≡ before.out.faults) × (before.out.faults < 2 ^ 64 - 1)
   pub report : (now.report.faults ≡ before.report.faults) × (before.report.faults < 2 ^ 64 - 1)
-
--- completeness: over a sound shelf, where nothing failed and the words and the script are in the grammar, there is no
--- fault, or it is a want of memory before the first line
-pub record IsCompleteRun (words : List (List ℕ)) (limits : Limits) (before now : World) (answers : List Answer) (f : Option Fault) : Type 0 where
-  pub early : (S : State) → Begins before.shelf S → IsSound S → CanOpen (command_of words) limits before.input → NoneRose before now
-      → (f ≡ None) ⊎ ((answers ≡ []) × (f ≡ Some fault.Memory))
 
 -- the world with the input as it was left
 abbrev pub with_input : World → SourceTold → World

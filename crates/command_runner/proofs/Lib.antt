@@ -1,0 +1,4 @@
+pub mod Runs
+pub mod Openings
+pub mod Shows
+pub mod Completes

@@ -1,0 +1,29 @@
+use Rattle.std.proofs.Common.{◌≡◌, inr, refl, sym, subst, ◌∙◌, List, None}
+use Rattle.vault_types.specs.State.{State}
+use Rattle.vault_types.specs.declared.Answer.{Answer}
+use Rattle.vault_traits.specs.Told.{ShelfTold}
+use Rattle.script_laws.specs.Leaves.{Begins}
+use Rattle.script_laws.specs.Script.{RunsLines}
+use Rattle.script_laws.specs.Strays.{StraysOf}
+use Rattle.run_laws.specs.World.{IsPrinted, report_text}
+use Rattle.run_laws.proofs.Earlier.{runs_opened}
+use Rattle.command_runner.proofs.Openings.{status_of_slice}
+use Rattle.command_runner.proofs.scripts.run_lines.Goals as goal
+
+pub returns-in-Ok-script_plain : goal.returns-in-Ok-script_plain
+returns-in-Ok-script_plain g c =
+    let old = g.S.Shelf.told c.args.shelf in
+    let p = g.P.Places.told c.args.places.now in
+    let q = g.P.Places.told c.script_plain.new.places in
+    let done = c.in-Ok-script_plain.done in
+    record {
+      course = inr (record {
+        runs = subst (λ (t : ShelfTold). RunsLines (Begins old) (StraysOf old) c.args.limits.now c.args.lines.now done.answers.items old t p q) (sym c.close-in-Ok-script_plain.ensures)
+            (runs_opened c.args.limits.now c.args.lines.now done.answers.items old (g.K.StateKeeper.shelf c.in-Ok.store) (g.K.StateKeeper.shelf done.store) p q (λ (S : State). g.K.StateKeeper.keeps c.in-Ok.store S None) (Begins old)
+            (λ (S : State). g.K.StateKeeper.strays c.in-Ok.store) (StraysOf old) c.in-Ok.ensures.same c.in-Ok.ensures.keeps c.in-Ok.ensures.strays c.in-Ok-script_plain.ensures.runs);
+        printed = subst (λ (l : List Answer). IsPrinted (report_text l) (g.O.Sink.told c.args.out) (g.O.Sink.told c.print_all-fault.new.out) c.print_all-fault.result) c.as_slice.ensures.value c.print_all-fault.ensures;
+        report = refl;
+        input = refl;
+      });
+      status_is = status_of_slice c.status_after.result done.answers.items c.as_slice-in-Ok-script_plain.result.now c.print_all-fault.result c.as_slice-in-Ok-script_plain.ensures.value c.status_after.ensures;
+    }

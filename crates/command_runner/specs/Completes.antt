@@ -1,0 +1,32 @@
+-- Completeness: where all is well before the first line and nothing fails, there is no fault. What the lines then answer is
+-- a part of the run itself (`IsRun`).
+use Rattle.std.specs.Prelude.{◌≡◌, ◌⊎◌, ℕ, List, [], Option, Some, None, IsSome}
+use Rattle.vault_types.specs.declared.Limits.{Limits}
+use Rattle.vault_types.specs.declared.Command.{Command}
+use Rattle.vault_types.specs.declared.Command.TheVariants as command
+use Rattle.vault_types.specs.declared.Fault.{Fault}
+use Rattle.vault_types.specs.declared.Fault.TheVariants as fault
+use Rattle.vault_types.specs.declared.Answer.{Answer}
+use Rattle.vault_types.specs.Words.{command_of}
+use Rattle.vault_types.specs.Bytes.{IsSound}
+use Rattle.vault_types.specs.State.{State}
+use Rattle.script_laws.specs.Leaves.{Begins}
+use Rattle.run_laws.specs.World.{World}
+use Rattle.run_laws.specs.Early.{CanOpen}
+use Rattle.run_laws.specs.Run.{NoneRose}
+
+-- the commands that a run makes
+abbrev pub IsBuilt : Command → Type 0
+IsBuilt (command.Backup set config queue lanes None) = Unit {0}
+IsBuilt (command.Restore set version cache None) = Unit {0}
+IsBuilt (command.Delete set through) = Unit {0}
+IsBuilt (command.Show set version) = Unit {0}
+IsBuilt (command.Batch queue lanes workers) = Unit {0}
+IsBuilt other = ⊥
+
+-- over a sound shelf, with an input that is told, where no count of faults rose and the words and the script are in the
+-- grammar, there is no fault, or it is a want of memory before the first line
+abbrev pub IsCompleteRun : List (List ℕ) → Limits → World → World → List Answer → Option Fault → Type 0
+IsCompleteRun words limits before now answers f =
+    (c : Command) (S : State) → command_of words ≡ Some c → IsBuilt c → CanOpen (Some c) limits before.input → IsSome before.input.left → Begins before.shelf S → IsSound S → NoneRose before now
+    → (f ≡ None) ⊎ ((answers ≡ []) × (f ≡ Some fault.Memory))

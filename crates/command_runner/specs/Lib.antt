@@ -1,0 +1,4 @@
+pub mod Unbuilt
+pub mod Going
+pub mod Showing
+pub mod Completes

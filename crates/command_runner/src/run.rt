@@ -1,0 +1,145 @@
+// A run of the program's words.
+ghost use Rattle.std.specs.Prelude.{map, string_bytes};
+ghost use Rattle.run_laws.specs.Run.{IsRun};
+ghost use Rattle.word_ranges.specs.Ranges.{AreLimits};
+ghost use Rattle.command_runner.specs.Unbuilt.{Unbuilt};
+ghost use Rattle.command_runner.specs.Going.{BatchGoes};
+ghost use Rattle.command_runner.specs.Completes.{IsCompleteRun};
+
+use crate::ending::{Ended, ended_early};
+use crate::one_line::{run_backup, run_delete, run_restore};
+use crate::scripts::run_lines;
+use crate::showing::run_show;
+use crate::store::ShelfStore;
+use script_input::read_lines;
+use script_words::read_words;
+use std::alloc::Global;
+use vault_traits::{Places, Shelf, Sink, Source};
+use vault_types::{Command, Fault, Limits};
+
+// Runs the command that the words are.
+fn run_command<S: Shelf, K: ShelfStore<S>, P: Places, I: Source, O: Sink, R: Sink>(
+    alloc: Global,
+    words: &[String],
+    limits: &Limits,
+    shelf: S,
+    places: &mut P,
+    input: I,
+    out: O,
+    report: &mut R,
+) -> Ended<S, I, O>
+    requires { AreLimits limits.now }
+    ensures { IsRun Unbuilt (map string_bytes words.now) limits.now
+        (record { shelf = S.told shelf; places = P.told places.old; input = I.told input; out = O.told out; report = R.told report.old })
+        (record { shelf = S.told result.shelf; places = P.told places.new; input = I.told result.input; out = O.told result.out; report = R.told report.new })
+        result.answers.items result.fault result.status }
+{
+    match read_words(alloc, words) {
+        Err(fault) => ended_early(alloc, fault, shelf, input, out, report),
+        Ok(
+            Command::Backup {
+                set,
+                config,
+                sample: None,
+                ..
+            },
+        ) => run_backup::<S, K, P, I, O, R>(
+            alloc, set, &config, limits, shelf, places, input, out, report,
+        ),
+        Ok(
+            Command::Restore {
+                set,
+                version,
+                cache,
+                area: None,
+            },
+        ) => run_restore::<S, K, P, I, O, R>(
+            alloc, set, version, cache, limits, shelf, places, input, out, report,
+        ),
+        Ok(Command::Delete { set, through }) => run_delete::<S, K, P, I, O, R>(
+            alloc, set, through, limits, shelf, places, input, out, report,
+        ),
+        Ok(Command::Show { set, version }) => run_show::<S, K, P, I, O, R>(
+            alloc, set, version, shelf, places, input, out, report,
+        ),
+        Ok(Command::Batch { .. }) => run_batch::<S, K, P, I, O, R>(
+            alloc, limits, shelf, places, input, out, report,
+        ),
+        Ok(
+            Command::Backup {
+                sample: Some(_),
+                ..
+            },
+        ) => ended_early(alloc, Fault::Usage, shelf, input, out, report),
+        Ok(Command::Restore { area: Some(_), .. }) => ended_early(
+            alloc,
+            Fault::Usage,
+            shelf,
+            input,
+            out,
+            report,
+        ),
+        Ok(Command::Fill { .. }) => ended_early(alloc, Fault::Usage, shelf, input, out, report),
+        Ok(Command::Migrate) => ended_early(alloc, Fault::Usage, shelf, input, out, report),
+        Ok(Command::Scrub { .. }) => ended_early(alloc, Fault::Usage, shelf, input, out, report),
+    }
+}
+
+// Reads the script from the input, and runs its lines.
+fn run_batch<S: Shelf, K: ShelfStore<S>, P: Places, I: Source, O: Sink, R: Sink>(
+    alloc: Global,
+    limits: &Limits,
+    shelf: S,
+    places: &mut P,
+    input: I,
+    out: O,
+    report: &mut R,
+) -> Ended<S, I, O>
+    requires { AreLimits limits.now }
+    ensures { BatchGoes limits.now
+        (record { shelf = S.told shelf; places = P.told places.old; input = I.told input; out = O.told out; report = R.told report.old })
+        (record { shelf = S.told result.shelf; places = P.told places.new; input = I.told result.input; out = O.told result.out; report = R.told report.new })
+        result.answers.items result.fault result.status }
+{
+    let mut input = input;
+    match read_lines(alloc, &mut input, limits) {
+        Err(fault) => ended_early(alloc, fault, shelf, input, out, report),
+        Ok(lines) => run_lines::<S, K, P, I, O, R>(
+            alloc,
+            lines.as_slice(),
+            limits,
+            shelf,
+            places,
+            input,
+            out,
+            report,
+        ),
+    }
+}
+
+/// Runs the command that the words are. What ends the run before its first line is told on `report`: `Usage` where the
+/// words are no command, or one that is not built yet; the faults of reading a script; and those of opening the shelf.
+/// A line that is refused has its fault as its answer. The report is on `out`, and on `report` where `out` gets a version;
+/// one that could not be written is a `WriteFault`, and what was done stands.
+pub fn run_words<S: Shelf, K: ShelfStore<S>, P: Places, I: Source, O: Sink, R: Sink>(
+    alloc: Global,
+    words: &[String],
+    limits: &Limits,
+    shelf: S,
+    places: &mut P,
+    input: I,
+    out: O,
+    report: &mut R,
+) -> Ended<S, I, O>
+    requires { AreLimits limits.now }
+    ensures run { IsRun Unbuilt (map string_bytes words.now) limits.now
+        (record { shelf = S.told shelf; places = P.told places.old; input = I.told input; out = O.told out; report = R.told report.old })
+        (record { shelf = S.told result.shelf; places = P.told places.new; input = I.told result.input; out = O.told result.out; report = R.told report.new })
+        result.answers.items result.fault result.status }
+    ensures complete { IsCompleteRun (map string_bytes words.now) limits.now
+        (record { shelf = S.told shelf; places = P.told places.old; input = I.told input; out = O.told out; report = R.told report.old })
+        (record { shelf = S.told result.shelf; places = P.told places.new; input = I.told result.input; out = O.told result.out; report = R.told report.new })
+        result.answers.items result.fault }
+{
+    run_command::<S, K, P, I, O, R>(alloc, words, limits, shelf, places, input, out, report)
+}

@@ -1,0 +1,55 @@
+// The lines of a script.
+ghost use Rattle.std.specs.List.{AllByRecursion};
+ghost use Rattle.script_laws.specs.Outputs.{AreApartLines};
+ghost use Rattle.run_laws.specs.Run.{RanLines};
+ghost use Rattle.word_ranges.specs.Ranges.{AreLimits, IsLineInRange};
+ghost use Rattle.command_runner.specs.Going.{GoesOn};
+
+use crate::ending::{Ended, ended_early};
+use crate::store::ShelfStore;
+use report_printer::{print_all, status_after};
+use script_runner::{Done, script_plain};
+use std::alloc::Global;
+use vault_traits::{Places, Shelf, Sink, Source};
+use vault_types::{Fault, Limits, Line};
+
+// Runs the lines over the places; the report is on `out`.
+pub(crate) fn run_lines<S: Shelf, K: ShelfStore<S>, P: Places, I: Source, O: Sink, R: Sink>(
+    alloc: Global,
+    lines: &[Line],
+    limits: &Limits,
+    shelf: S,
+    places: &mut P,
+    input: I,
+    out: O,
+    report: &mut R,
+) -> Ended<S, I, O>
+    requires apart { AreApartLines lines.now }
+    requires ranges { AllByRecursion IsLineInRange lines.now }
+    requires limits { AreLimits limits.now }
+    ensures { GoesOn (RanLines lines.now limits.now)
+        (record { shelf = S.told shelf; places = P.told places.old; input = I.told input; out = O.told out; report = R.told report.old })
+        (record { shelf = S.told result.shelf; places = P.told places.new; input = I.told result.input; out = O.told result.out; report = R.told report.new })
+        result.answers.items result.fault result.status }
+{
+    let store = match K::start(alloc, shelf) {
+        Ok(store) => store,
+        Err((fault, shelf)) => return ended_early(alloc, fault, shelf, input, out, report),
+    };
+    match script_plain(alloc, store, lines, places, limits) {
+        Err((_, store)) => ended_early(alloc, Fault::Memory, store.close(), input, out, report),
+        Ok(done) => {
+            let Done { store, answers } = done;
+            let mut out = out;
+            let fault = print_all(answers.as_slice(), &mut out);
+            Ended {
+                status: status_after(answers.as_slice(), fault),
+                fault,
+                answers,
+                shelf: store.close(),
+                input,
+                out,
+            }
+        }
+    }
+}

@@ -1,0 +1,33 @@
+// A store on a shelf.
+ghost use Rattle.std.specs.Prelude.{◌≡◌, ◌<◌, ◌^◌, None, length, IfOk, IfErr};
+ghost use Rattle.vault_types.specs.declared.Name.{Name as Named};
+ghost use Rattle.vault_types.specs.State.{State};
+ghost use Rattle.script_laws.specs.Leaves.{Begins};
+ghost use Rattle.script_laws.specs.Strays.{StraysOf};
+ghost use Rattle.run_laws.specs.Early.{IsSameBut, IsStartFault};
+ghost use Rattle.command_runner.specs.Showing.{ReadsRecipe};
+
+use script_runner::Store;
+use std::alloc::Global;
+use vault_traits::Shelf;
+use vault_types::{Fault, Recipe, Set, Version};
+
+/// A store that opens on a shelf, and gives it back.
+pub trait ShelfStore<S: Shelf>: Store {
+    /// Opens the store. It writes nothing; `StoreFault`, `Damaged` with the first damage in the order of opening, `Memory`.
+    fn start(alloc: Global, shelf: S) -> Result<Self, (Fault, S)>
+        ensures same { IfOk result (λ k. IsSameBut (S.told shelf) (Self.shelf k)) }
+        ensures keeps { IfOk result (λ k. (T : State) → Begins (S.told shelf) T → Self.keeps k T None) }
+        ensures strays { IfOk result (λ k. (T : State) → Begins (S.told shelf) T → (n : Named) → Self.strays k n → StraysOf (S.told shelf) T n) }
+        ensures err { IfErr result (λ e. IsSameBut (S.told shelf) (S.told e.1) × IsStartFault (S.told shelf) (S.told e.1) e.0) };
+
+    /// The recipe of a version. `NotKept`, exactly where the version is not kept; `StoreFault`, `Damaged`, `Memory`. All of the
+    /// store is as before.
+    fn recipe(&mut self, alloc: Global, set: Set, version: Version) -> Result<Recipe, Fault>
+        ensures reads { ReadsRecipe (Self.keeps self.old) (Self.shelf self.old) (Self.shelf self.new) set version result }
+        ensures few { IfOk result (λ r. length r.rows < 2 ^ 32) };
+
+    /// The shelf. It takes no memory.
+    fn close(self) -> S
+        ensures { S.told result ≡ Self.shelf self };
+}

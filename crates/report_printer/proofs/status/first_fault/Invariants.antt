@@ -1,0 +1,6 @@
+use Rattle.std.proofs.Common.{◌≡◌, drop}
+use Rattle.run_laws.specs.World.{first_fault}
+use Rattle.report_printer.proofs.status.first_fault.Given as goal
+
+abbrev pub invariant-loop-answer : goal.invariant-loop-answer
+invariant-loop-answer l = first_fault l.answers ≡ first_fault (drop l.answer-index l.answers)

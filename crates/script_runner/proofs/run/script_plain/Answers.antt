@@ -1,0 +1,29 @@
+use Rattle.std.proofs.Common.{rules, ◌≡◌, ◌≤◌, ◌<◌, ℕ, List, [], ◌∷◌, ◌+◌, ◌++◌, length, arith, sym, ap, subst, ◌∙◌, true, if◌then◌else◌}
+use Rattle.std.specs.Prelude.{vec_len, vec_capacity}
+use Rattle.script_laws.proofs.Chained.{Chained, chain_begins, chain_goes_on, chain_ends}
+use Rattle.script_laws.proofs.Composed.{runs_of_chain}
+use Rattle.script_runner.proofs.run.script_plain.Goals as goal
+
+pub loop-line-init : goal.loop-line-init
+loop-line-init g c = record {
+  chained = rw c.in-Ok.ensures.items (chain_begins _ _ _);
+  count = c.in-Ok.ensures.len;
+  room = c.in-Ok.ensures.capacity;
+  within = omega arith;
+}
+
+pub unreachable-requires : goal.unreachable-requires
+unreachable-requires g c = omega (arith, c.in-Err.ensures.full, c.loop-line.invariant.count, c.loop-line.invariant.room, c.loop-line-test.true)
+
+pub loop-line-preserved : goal.loop-line-preserved
+loop-line-preserved g c = record {
+  chained = rw c.in-Ok-push.ensures.items (chain_goes_on _ _ _ _ _ _ _ c.line-item.result c.one_line-answer.result c.loop-line-test.true c.line-item.is c.loop-line.invariant.chained c.one_line-answer.ensures);
+  count = rw c.in-Ok-push.ensures.len (omega (arith, c.loop-line.invariant.count));
+  room = omega (arith, c.push.ensures.capacity, c.loop-line.invariant.room);
+  within = omega (arith, c.loop-line-test.true);
+}
+
+pub returns-clause-runs : goal.returns-clause-runs
+returns-clause-runs g c =
+    let all : c.loop-line.line-index ≡ length c.args.lines.now = omega (arith, c.loop-line.invariant.within, c.loop-line-test.false) in
+    runs_of_chain g.K.StateKeeper.shelf g.K.StateKeeper.keeps g.K.StateKeeper.strays g.K.StateKeeper.keeps_is g.K.StateKeeper.strays_known _ _ _ _ _ c.requires.apart (chain_ends _ _ _ _ _ _ all c.loop-line.invariant.chained)

@@ -1,0 +1,189 @@
+// A run of lines.
+ghost use Rattle.std.specs.Prelude.{◌≡◌, ◌≤◌, ℕ, List, None, IfOk, IfErr};
+ghost use Rattle.std.specs.List.{AllByRecursion};
+ghost use Rattle.vault_types.specs.State.{State};
+ghost use Rattle.vault_types.specs.declared.Line.TheVariants as line;
+ghost use Rattle.backup_pass.specs.Passing.{IsInRange};
+ghost use Rattle.script_laws.specs.Outputs.{AreApartLines};
+ghost use Rattle.script_laws.specs.Script.{RunsLines};
+ghost use Rattle.script_laws.specs.Steps.{StepsLine, read_numbered, write_numbered};
+ghost use Rattle.word_ranges.specs.Ranges.{IsLineInRange, AreLimits};
+
+use crate::store::Store;
+use std::alloc::Global;
+use vault_traits::{Places, Refused};
+use vault_types::text::Text;
+use vault_types::{Answer, Fault, JobConfig, Limits, Line, Memory, Set, Version};
+
+/// What a run of lines gives back: the store, and one answer for each line.
+#[derive(Drop)]
+pub struct Done<K: Store> {
+    pub store: K,
+    pub answers: Vec<Answer>,
+}
+
+// A fault of a source, with the number that the places give it.
+fn with_read_number(fault: Fault, number: u64) -> Fault
+    ensures { result ≡ read_numbered number fault }
+{
+    match fault {
+        Fault::ReadFault(_) => Fault::ReadFault(number),
+        other => other,
+    }
+}
+
+// A fault of a sink, with the number that the places give it.
+fn with_write_number(fault: Fault, number: u64) -> Fault
+    ensures { result ≡ write_numbered number fault }
+{
+    match fault {
+        Fault::WriteFault(_) => Fault::WriteFault(number),
+        other => other,
+    }
+}
+
+// A line that backs a source up.
+fn backup_line<K: Store, P: Places>(
+    alloc: Global,
+    store: &mut K,
+    set: Set,
+    name: &Text,
+    config: &JobConfig,
+    places: &mut P,
+    limits: &Limits,
+) -> Answer
+    requires config { IsInRange config.now }
+    requires limits { AreLimits limits.now }
+    ensures { StepsLine K.shelf K.keeps K.strays limits.now (record { keeper = store.old; places = P.told places.old })
+        (line.Backup set name.now config.now) result (record { keeper = store.new; places = P.told places.new }) }
+{
+    if store.full(set, limits) {
+        return Answer::Refused(Fault::Full {
+            set,
+            latest: store.latest(set),
+            next: store.next_id(),
+        });
+    }
+    match places.open_source(alloc, name.as_str()) {
+        Err(Refused::Failed) => Answer::Refused(Fault::PlaceFault(places.faults())),
+        Err(Refused::Memory) => Answer::Refused(Fault::Memory),
+        Ok(mut source) => {
+            let result = store.back_up(alloc, set, &mut source, config, limits);
+            places.close_source(source);
+            match result {
+                Ok(answer) => answer,
+                Err(fault) => Answer::Refused(with_read_number(fault, places.read_faults())),
+            }
+        }
+    }
+}
+
+// A line that restores a version.
+fn restore_line<K: Store, P: Places>(
+    alloc: Global,
+    store: &mut K,
+    set: Set,
+    version: Version,
+    name: &Text,
+    slots: u32,
+    places: &mut P,
+    limits: &Limits,
+) -> Answer
+    requires some { 1 ≤ slots }
+    requires few { slots ≤ 64 }
+    ensures { StepsLine K.shelf K.keeps K.strays limits.now (record { keeper = store.old; places = P.told places.old })
+        (line.Restore set version name.now slots) result (record { keeper = store.new; places = P.told places.new }) }
+{
+    if !store.kept(set, version) {
+        return Answer::Refused(Fault::NotKept {
+            set,
+            version,
+            floor: store.floor(set),
+            latest: store.latest(set),
+        });
+    }
+    match places.open_sink(alloc, name.as_str()) {
+        Err(Refused::Failed) => Answer::Refused(Fault::PlaceFault(places.faults())),
+        Err(Refused::Memory) => Answer::Refused(Fault::Memory),
+        Ok(mut sink) => {
+            let result = store.restore(alloc, set, version, slots, &mut sink);
+            places.close_sink(name.as_str(), sink);
+            match result {
+                Ok(answer) => answer,
+                Err(fault) => Answer::Refused(with_write_number(fault, places.write_faults())),
+            }
+        }
+    }
+}
+
+// A line that deletes versions.
+fn delete_line<K: Store, P: Places>(
+    store: &mut K,
+    set: Set,
+    through: Version,
+    places: &P,
+    limits: &Limits,
+) -> Answer
+    ensures { StepsLine K.shelf K.keeps K.strays limits.now (record { keeper = store.old; places = P.told places.now })
+        (line.Delete set through) result (record { keeper = store.new; places = P.told places.now }) }
+{
+    match store.delete(set, through) {
+        Ok(answer) => answer,
+        Err(fault) => Answer::Refused(fault),
+    }
+}
+
+fn one_line<K: Store, P: Places>(
+    alloc: Global,
+    store: &mut K,
+    line: &Line,
+    places: &mut P,
+    limits: &Limits,
+) -> Answer
+    requires range { IsLineInRange line.now }
+    requires limits { AreLimits limits.now }
+    ensures { StepsLine K.shelf K.keeps K.strays limits.now (record { keeper = store.old; places = P.told places.old })
+        line.now result (record { keeper = store.new; places = P.told places.new }) }
+{
+    match line {
+        Line::Backup { set, name, config } => backup_line(
+            alloc, store, *set, name, config, places, limits,
+        ),
+        Line::Restore {
+            set,
+            version,
+            name,
+            cache,
+        } => restore_line(alloc, store, *set, *version, name, *cache, places, limits),
+        Line::Delete { set, through } => delete_line(store, *set, *through, places, limits),
+    }
+}
+
+/// Runs the lines one after another, each over the places that it names. Each answers, and a refused one leaves the
+/// store's versions; `Memory` comes before the first, and then nothing has changed.
+pub fn script_plain<K: Store, P: Places>(
+    alloc: Global,
+    store: K,
+    lines: &[Line],
+    places: &mut P,
+    limits: &Limits,
+) -> Result<Done<K>, (Memory, K)>
+    requires apart { AreApartLines lines.now }
+    requires ranges { AllByRecursion IsLineInRange lines.now }
+    requires limits { AreLimits limits.now }
+    ensures runs { IfOk result (λ done. RunsLines (λ S. K.keeps store S None) (λ S. K.strays store) limits.now lines.now done.answers.items (K.shelf store) (K.shelf done.store) (P.told places.old) (P.told places.new)) }
+    ensures memory { IfErr result (λ e. (e.1 ≡ store) × (P.told places.new ≡ P.told places.old)) }
+{
+    let mut store = store;
+    let Ok(mut answers) = Vec::with_capacity(alloc, lines.len()) else {
+        return Err((Memory, store));
+    };
+    for line in lines {
+        let answer = one_line(alloc, &mut store, line, places, limits);
+        match answers.push(answer) {
+            Ok(()) => {}
+            Err(_) => unreachable!(),
+        }
+    }
+    Ok(Done { store, answers })
+}

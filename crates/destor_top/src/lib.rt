@@ -1,17 +1,55 @@
-//! The program over any shelf, places and streams: it reads the words of a command, opens the shelf, runs the command,
-//! and prints what came of it.
-//!
-//! The command is a backup that cuts by a fixed size, into a store that has no version yet.
+//! The program over any shelf, places and streams: it reads the words of a command, opens the store on the shelf, runs the
+//! command, and prints what came of it.
 #![tactic(auto)]
 
-mod job;
-mod opening;
-mod printing;
-mod run;
-mod status;
+ghost use Rattle.std.specs.Prelude.{◌≤◌, map, string_bytes};
+ghost use Rattle.run_laws.specs.Run.{IsRun};
+ghost use Rattle.command_runner.specs.Completes.{IsCompleteRun};
+ghost use Rattle.command_runner.specs.Unbuilt.{Unbuilt};
 
-pub use printing::tell;
-pub use run::{Ended, run_plain};
+pub use command_runner::Ended;
+use command_runner::run_words;
+use keeper_store::KeeperStore;
+pub use report_printer::tell;
+use std::alloc::Global;
+use vault_traits::{Places, Shelf, Sink, Source};
+use vault_types::Limits;
 
 #[cfg(test)]
 mod tests;
+
+/// Runs the command that the words are, over the store on the shelf, with its data from `input` and to `out`; a script
+/// names places for its sources and outputs. What ends the run before its first line is told on `report`: `Usage` where
+/// the words are no command, or one that is not built yet; `ReadFault`, `ScriptTooLong` and `BadLine` of a script; and
+/// `StoreFault`, `Damaged` and `Memory` of the opening, which writes nothing. A line that is refused has its fault as its
+/// answer, and leaves the versions of the store. The report is on `out`, and on `report` where `out` gets a version; one
+/// that could not be written is a `WriteFault`, and what was done stands.
+pub fn run_plain<S: Shelf, P: Places, I: Source + Send, O: Sink + Send, R: Sink>(
+    alloc: Global,
+    words: &[String],
+    limits: &Limits,
+    shelf: S,
+    places: &mut P,
+    input: I,
+    out: O,
+    report: &mut R,
+) -> Ended<S, I, O>
+    requires chunks { 1 ≤ limits.now.chunks }
+    requires chunks_high { limits.now.chunks ≤ 4194304 }
+    requires last { 1 ≤ limits.now.last }
+    requires last_high { limits.now.last ≤ 4294967294 }
+    requires script { 1 ≤ limits.now.script }
+    requires script_high { limits.now.script ≤ 1048576 }
+    ensures run { IsRun Unbuilt (map string_bytes words.now) limits.now
+        (record { shelf = S.told shelf; places = P.told places.old; input = I.told input; out = O.told out; report = R.told report.old })
+        (record { shelf = S.told result.shelf; places = P.told places.new; input = I.told result.input; out = O.told result.out; report = R.told report.new })
+        result.answers.items result.fault result.status }
+    ensures complete { IsCompleteRun (map string_bytes words.now) limits.now
+        (record { shelf = S.told shelf; places = P.told places.old; input = I.told input; out = O.told out; report = R.told report.old })
+        (record { shelf = S.told result.shelf; places = P.told places.new; input = I.told result.input; out = O.told result.out; report = R.told report.new })
+        result.answers.items result.fault }
+{
+    run_words::<S, KeeperStore<S>, P, I, O, R>(
+        alloc, words, limits, shelf, places, input, out, report,
+    )
+}

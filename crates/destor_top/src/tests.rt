@@ -197,7 +197,9 @@ fn other_words_are_refused_before_the_shelf_is_touched(rt: HostRuntime) -> Resul
         "backup --max 4096",
         // These are commands, but the program does not have them yet.
         "backup --chunk fixed --size 4 --sample 1 --prefetch 1",
-        "restore --version 1",
+        "restore --version 1 --area 65536",
+        "fill --seed 7 --versions 2",
+        "migrate",
         "scrub",
     ] {
         let shelf = FaultShelf::new(MemShelf::new(alloc), [1].to_vec(alloc)?, false);
@@ -338,10 +340,28 @@ fn a_report_without_room_is_a_fault_and_the_store_is_there(rt: HostRuntime) -> R
 }
 
 #[test]
-fn a_shelf_with_a_blob_is_not_opened(rt: HostRuntime) -> Result<(), Fail> {
+fn a_blob_that_no_version_needs_is_no_damage(rt: HostRuntime) -> Result<(), Fail> {
     let alloc = rt.alloc();
     let mut shelf = MemShelf::new(alloc);
     shelf.put(alloc, TABLE, b"old")?;
+    let (ended, _) = run_over(
+        alloc,
+        BACKUP,
+        4_194_304,
+        shelf,
+        source_of(alloc, TEXT)?,
+        100,
+    )?;
+    assert_eq!(rt; (ended.status, ended.fault), (0, None));
+    assert_eq!(rt; blob_len(&ended.shelf, TABLE), 104);
+    Ok(())
+}
+
+#[test]
+fn a_store_that_is_damaged_is_not_opened(rt: HostRuntime) -> Result<(), Fail> {
+    let alloc = rt.alloc();
+    let mut shelf = MemShelf::new(alloc);
+    shelf.put(alloc, RECIPE, b"old")?;
     let (ended, report) = run_over(
         alloc,
         BACKUP,
@@ -350,12 +370,157 @@ fn a_shelf_with_a_blob_is_not_opened(rt: HostRuntime) -> Result<(), Fail> {
         source_of(alloc, TEXT)?,
         100,
     )?;
-    assert_eq!(rt; (ended.status, ended.fault), (15, Some(Fault::NotEmpty)));
+    assert_eq!(rt; ended.status, 7);
     assert_eq!(rt;
         report.as_slice(),
-        b"error 15: store not empty\n".as_slice()
+        b"error 7: store damaged, recipe 1\n".as_slice()
     );
-    assert!(rt; ended.answers.is_empty());
-    assert!(rt; ended.shelf.blob(TABLE) == Some(b"old".as_slice()));
+    assert!(rt; ended.answers.is_empty() && ended.out.as_slice().is_empty());
+    assert!(rt; ended.shelf.blob(RECIPE) == Some(b"old".as_slice()));
+    Ok(())
+}
+
+// A command over the shelf that an earlier run gave back, without input.
+fn run_again(
+    alloc: Global,
+    text: &str,
+    shelf: MemShelf,
+) -> Result<(Ended<MemShelf, MemSource, MemSink>, MemSink), Fail> {
+    run_over(alloc, text, 4_194_304, shelf, source_of(alloc, b"")?, 1000)
+}
+
+// The shelf of two versions, of ten bytes and of twelve.
+fn two_versions(alloc: Global) -> Result<MemShelf, Fail> {
+    let (first, _) = run_over(
+        alloc,
+        BACKUP,
+        4_194_304,
+        MemShelf::new(alloc),
+        source_of(alloc, TEXT)?,
+        100,
+    )?;
+    let (second, _) = run_over(
+        alloc,
+        BACKUP,
+        4_194_304,
+        first.shelf,
+        source_of(alloc, b"abcdefghefgh")?,
+        100,
+    )?;
+    Ok(second.shelf)
+}
+
+#[test]
+fn versions_come_back(rt: HostRuntime) -> Result<(), Fail> {
+    let alloc = rt.alloc();
+    let shelf = two_versions(alloc)?;
+    let (first, line) = run_again(alloc, "restore --version 1", shelf)?;
+    assert_eq!(rt; (first.status, first.fault), (0, None));
+    assert_eq!(rt; first.out.as_slice(), TEXT);
+    assert_eq!(rt;
+        line.as_slice(),
+        b"restore 1: 10 bytes, 1 loads\n".as_slice()
+    );
+    let (second, line) = run_again(alloc, "restore --version 2 --cache 1", first.shelf)?;
+    assert_eq!(rt; second.out.as_slice(), b"abcdefghefgh".as_slice());
+    assert_eq!(rt;
+        line.as_slice(),
+        b"restore 2: 12 bytes, 2 loads\n".as_slice()
+    );
+    Ok(())
+}
+
+#[test]
+fn a_version_that_is_not_kept_is_refused(rt: HostRuntime) -> Result<(), Fail> {
+    let alloc = rt.alloc();
+    let shelf = two_versions(alloc)?;
+    let (ended, report) = run_again(alloc, "restore --version 3", shelf)?;
+    assert_eq!(rt; (ended.status, ended.fault), (3, None));
+    assert!(rt; ended.out.as_slice().is_empty());
+    assert_eq!(rt;
+        report.as_slice(),
+        b"error 3: version not kept\n".as_slice()
+    );
+    Ok(())
+}
+
+#[test]
+fn a_deleted_version_gives_its_space_back(rt: HostRuntime) -> Result<(), Fail> {
+    let alloc = rt.alloc();
+    let shelf = two_versions(alloc)?;
+    let (latest, _) = run_again(alloc, "delete --through 2", shelf)?;
+    assert_eq!(rt; (latest.status, latest.fault), (10, None));
+    let (ended, _) = run_again(alloc, "delete --through 1", latest.shelf)?;
+    assert_eq!(rt; (ended.status, ended.fault), (0, None));
+    assert_eq!(rt;
+        ended.out.as_slice(),
+        b"delete 1: floor 2, 0 containers reclaimed\n".as_slice()
+    );
+    assert!(rt; ended.shelf.blob(RECIPE).is_none());
+    assert_eq!(rt; blob_len(&ended.shelf, PAYLOAD), 6);
+    Ok(())
+}
+
+#[test]
+fn a_recipe_is_shown(rt: HostRuntime) -> Result<(), Fail> {
+    let alloc = rt.alloc();
+    let shelf = two_versions(alloc)?;
+    let (ended, report) = run_again(alloc, "show --version 2", shelf)?;
+    assert_eq!(rt; (ended.status, ended.fault), (0, None));
+    assert_eq!(rt;
+        &ended.out.as_slice()[..50],
+        b"version 2 length 12 next 3 chunks 3 sparse 0\n81fe8".as_slice()
+    );
+    assert!(rt; report.as_slice().is_empty());
+    Ok(())
+}
+
+// A script over places with one source.
+fn run_script(
+    alloc: Global,
+    script: &[u8],
+) -> Result<(Ended<MemShelf, MemSource, MemSink>, MemPlaces), Fail> {
+    let mut files = Vec::new(alloc);
+    files.push((String::from_str(alloc, "one")?, TEXT.to_vec(alloc)?))?;
+    let mut places = MemPlaces::with(alloc, files, 100)?;
+    let mut words = Vec::new(alloc);
+    words.push(String::from_str(alloc, "batch")?)?;
+    let mut report = MemSink::with(alloc, 100)?;
+    let ended = run_plain(
+        alloc,
+        words.as_slice(),
+        &Limits::standard(),
+        MemShelf::new(alloc),
+        &mut places,
+        source_of(alloc, script)?,
+        MemSink::with(alloc, 1000)?,
+        &mut report,
+    );
+    Ok((ended, places))
+}
+
+#[test]
+fn a_script_runs_line_by_line(rt: HostRuntime) -> Result<(), Fail> {
+    let alloc = rt.alloc();
+    let (ended, places) = run_script(
+        alloc,
+        b"backup one chunk=fixed size=4\nbackup two\nrestore 1 back\ndelete 1\n",
+    )?;
+    assert_eq!(rt; (ended.status, ended.fault), (11, None));
+    assert_eq!(rt;
+        ended.out.as_slice(),
+        b"backup 1: 3 chunks, 10 bytes, 1 new containers, 6 bytes written, 0 sparse\nerror 11: place failed\nrestore 1: 10 bytes, 1 loads\nerror 10: latest version\n".as_slice()
+    );
+    assert!(rt; places.bytes("back") == Some(TEXT));
+    Ok(())
+}
+
+#[test]
+fn a_bad_script_runs_no_line(rt: HostRuntime) -> Result<(), Fail> {
+    let alloc = rt.alloc();
+    let (ended, _) = run_script(alloc, b"backup one\nback up one\n")?;
+    assert_eq!(rt; (ended.status, ended.fault), (12, Some(Fault::BadLine(2))));
+    assert!(rt; ended.out.as_slice().is_empty());
+    assert!(rt; ended.shelf.names(alloc)?.is_empty());
     Ok(())
 }

@@ -1,5 +1,0 @@
-pub mod Ranges
-pub mod Completes
-pub mod Written
-pub mod Listed
-pub mod Runs

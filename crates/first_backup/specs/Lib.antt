@@ -1,2 +1,0 @@
-pub mod Backup
-pub mod Going

@@ -1,0 +1,34 @@
+-- What a keeper that was opened keeps.
+use Rattle.std.proofs.Common.{◌≡◌, ◌≤◌, ℕ, List, [], Option, Some, None, refl, sym, ap, subst}
+use Rattle.std.specs.FinMap as fin
+use Rattle.std.specs.Prelude.{IsSome, IsSomeAnd, IfSome, Contains}
+use Rattle.vault_types.specs.declared.Name.{Name}
+use Rattle.vault_types.specs.State.{State, IsValid}
+use Rattle.vault_types.specs.Shelf.{Blobs, Stands}
+use Rattle.vault_traits.specs.Crash.{History}
+use Rattle.vault_traits.specs.Told.{ShelfTold}
+use Rattle.keeper_catalog.specs.View.{View, Keeps, opened_core}
+use Rattle.script_laws.specs.Leaves.{Begins}
+use Rattle.script_laws.specs.Strays.{IsStray, StraysOf}
+use Rattle.run_laws.specs.Early.{IsSameBut}
+use Rattle.serial_delete.specs.Keeping.{IsStateOf, IsKnownStray}
+use Rattle.serial_delete.proofs.Keeping.{opened_state, opened_known}
+
+some_told : (b : Option Blobs) (P : Blobs → Type 0) → IsSomeAnd b P → IsSome b
+some_told None P h = absurd h
+some_told (Some m) P h = refl
+
+begun_keeps : (v : View) (b : Option Blobs) (T : State) → IfSome b (λ m. (U : State) → Stands m U → IsValid U → Keeps v (opened_core U v.memo.strays)) → IsSomeAnd b (λ m. Stands m T) → IsValid T → Keeps v (opened_core T v.memo.strays)
+begun_keeps v None T each stands valid = absurd stands
+begun_keeps v (Some m) T each stands valid = each T stands valid
+
+module _ (v : View) (shelf : ShelfTold) (same : v.told.blobs ≡ shelf.blobs) (each : IfSome shelf.blobs (λ m. (U : State) → Stands m U → IsValid U → Keeps v (opened_core U v.memo.strays))) where
+  pub begun : (T : State) → Begins shelf T → IsStateOf v T None
+  begun T b = opened_state v T (begun_keeps v shelf.blobs T each b.blobs b.valid) (subst (λ (o : Option Blobs). IsSome o) (sym same) (some_told shelf.blobs (λ m. Stands m T) b.blobs))
+
+  pub begun_strays : IfSome shelf.blobs (λ m. (n : Name) → Contains v.memo.strays n → IsSome (fin.get m n)) → (T : State) → Begins shelf T → (n : Name) → IsKnownStray v n → StraysOf shelf T n
+  begun_strays found T b n known = subst (λ (o : Option Blobs). IfSome o (λ m. IsStray T m n)) same
+      (opened_known v T (begun_keeps v shelf.blobs T each b.blobs b.valid) (subst (λ (o : Option Blobs). IfSome o (λ m. (q : Name) → Contains v.memo.strays q → IsSome (fin.get m q))) (sym same) found) n known)
+
+pub same_but : (old new : ShelfTold) → (new.blobs ≡ old.blobs) × (new.history ≡ old.history) × (new.gets ≡ old.gets) → old.faults ≤ new.faults → IsSameBut old new
+same_but old new same later = record { blobs = same.0; history = same.1; gets = same.2; later = later }

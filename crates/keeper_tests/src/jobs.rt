@@ -220,7 +220,7 @@ pub fn commit<S: Shelf>(alloc: Global, keeper: &mut Keeper<S>, draft: Draft) -> 
 }
 
 // Adds kept chunks of 4 bytes, and then new containers.
-fn fill<S: Shelf>(
+pub(crate) fn fill<S: Shelf>(
     alloc: Global,
     keeper: &mut Keeper<S>,
     draft: &mut Draft,

@@ -6,6 +6,8 @@ ghost use Rattle.vault_types.specs.Names.{fp, IsFp};
 ghost use Rattle.blob_parts.specs.Recipes.{FitsRow};
 
 pub mod jobs;
+pub mod store;
+pub mod views;
 
 use sha1::Sha1;
 use vault_types::{Fp, Id, Row};

@@ -12,7 +12,7 @@ use Rattle.vault_types.specs.declared.Answer.TheVariants.{Refused}
 use Rattle.vault_types.specs.declared.Line.{Line}
 use Rattle.vault_types.specs.declared.Line.TheVariants.{Backup}
 use Rattle.vault_types.specs.Cuts.{cuts}
-use Rattle.vault_types.specs.Shelf.{Blobs, recipe_name, Stands}
+use Rattle.vault_types.specs.Shelf.{recipe_name, Stands}
 use Rattle.vault_types.specs.State.{State, is_full, latest_of, next_of}
 use Rattle.vault_types.specs.Backup.{backup, stored}
 use Rattle.vault_types.specs.Events.{Core, Change, IsNear, after_refused}

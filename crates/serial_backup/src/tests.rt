@@ -1,5 +1,6 @@
 // Backups over the devices in memory.
 ghost use Rattle.std.specs.Prelude.{◌≡◌, ◌≤◌};
+ghost use Rattle.backup_pass.specs.Passing.{IsInRange};
 
 use super::*;
 use std::process::Abort;
@@ -8,8 +9,7 @@ use vault_ports::{FaultShelf, FaultSource, MemShelf, MemSource};
 use vault_types::{Cutting, Rewrite};
 
 fn settings() -> JobConfig
-    ensures cutting { result.cutting ≡ Cutting.Fixed 4 }
-    ensures container { result.container ≡ 8 }
+    ensures { IsInRange result }
 {
     let mut config = JobConfig::standard();
     config.cutting = Cutting::Fixed { size: 4 };

@@ -467,9 +467,11 @@ fn a_recipe_is_shown(rt: HostRuntime) -> Result<(), Fail> {
     let shelf = two_versions(alloc)?;
     let (ended, report) = run_again(alloc, "show --version 2", shelf)?;
     assert_eq!(rt; (ended.status, ended.fault), (0, None));
-    assert_eq!(rt;
-        &ended.out.as_slice()[..50],
-        b"version 2 length 12 next 3 chunks 3 sparse 0\n81fe8".as_slice()
+    assert!(rt;
+        ended
+            .out
+            .as_slice()
+            .starts_with(b"version 2 length 12 next 3 chunks 3 sparse 0\n81fe8")
     );
     assert!(rt; report.as_slice().is_empty());
     Ok(())

@@ -1,8 +1,8 @@
 // Rows of scripts.
-use crate::running::{Row, is_as_said, run_over};
+use crate::running::{Row, is_as_said, run_over, run_row};
 use std::alloc::Global;
 use std::test::Fail;
-use vault_ports::{FaultShelf, MemPlaces, MemShelf};
+use vault_ports::{FaultPlaces, FaultShelf, MemPlaces, MemShelf};
 use vault_types::{Kind, Limits, Name};
 
 fn place(alloc: Global, name: &str, bytes: &[u8]) -> Result<(String, Vec<u8>), Fail> {
@@ -102,6 +102,82 @@ fn a_deletion_gives_back_what_it_frees(rt: HostRuntime) -> Result<(), Fail> {
         )?;
         assert!(rt; is_as_said(&row, &seen));
     }
+    Ok(())
+}
+
+#[test]
+fn sets_share_their_containers(rt: HostRuntime) -> Result<(), Fail> {
+    let alloc = rt.alloc();
+    let files = [("a", b"aaaa".as_slice()), ("b", b"bbbb".as_slice())];
+    let row = batch(
+        b"backup a chunk=fixed size=4\nbackup a set=3 chunk=fixed size=4\nbackup b chunk=fixed size=4\ndelete 1\nbackup b set=3 chunk=fixed size=4\ndelete 1 set=3\n",
+        0,
+        b"backup 1: 1 chunks, 4 bytes, 1 new containers, 4 bytes written, 0 sparse\nbackup 3/1: 1 chunks, 4 bytes, 0 new containers, 0 bytes written, 0 sparse\nbackup 2: 1 chunks, 4 bytes, 1 new containers, 4 bytes written, 0 sparse\ndelete 1: floor 2, 0 containers reclaimed\nbackup 3/2: 1 chunks, 4 bytes, 0 new containers, 0 bytes written, 0 sparse\ndelete 3/1: floor 2, 1 containers reclaimed\n",
+    );
+    let mut places = places_of(alloc, &files)?;
+    let seen = run_over(
+        alloc,
+        &row,
+        &Limits::standard(),
+        MemShelf::new(alloc),
+        &mut places,
+    )?;
+    assert!(rt; is_as_said(&row, &seen));
+    Ok(())
+}
+
+const FIRST: Row = Row {
+    words: "backup --chunk fixed --size 4",
+    input: b"abcdabcdab",
+    status: 0,
+    out: b"backup 1: 3 chunks, 10 bytes, 1 new containers, 6 bytes written, 0 sparse\n",
+    report: b"",
+};
+
+#[test]
+fn a_source_that_fails_makes_no_version(rt: HostRuntime) -> Result<(), Fail> {
+    let alloc = rt.alloc();
+    let mut files = Vec::new(alloc);
+    files.push(place(alloc, "a", b"aaaa")?)?;
+    files.push(place(alloc, "b", b"aaaa")?)?;
+    let reads = [2].to_vec(alloc)?;
+    let mut places = FaultPlaces::with(alloc, files, 100, 4, reads, Vec::new(alloc))?;
+    let row = batch(
+        b"backup a chunk=fixed size=4 rewrite=none\nbackup b chunk=fixed size=4 rewrite=none\n",
+        4,
+        b"error 4: source failed\nbackup 1: 1 chunks, 4 bytes, 1 new containers, 4 bytes written, 0 sparse\n",
+    );
+    let seen = run_over(
+        alloc,
+        &row,
+        &Limits::standard(),
+        MemShelf::new(alloc),
+        &mut places,
+    )?;
+    assert!(rt; is_as_said(&row, &seen));
+    let payload = Name {
+        kind: Kind::Payload,
+        number: 1,
+    };
+    assert!(rt; seen.shelf.blob(payload) == Some(b"aaaa".as_slice()));
+    Ok(())
+}
+
+#[test]
+fn a_sink_that_fails_leaves_a_front(rt: HostRuntime) -> Result<(), Fail> {
+    let alloc = rt.alloc();
+    let shelf = run_row(alloc, &FIRST, MemShelf::new(alloc))?.shelf;
+    let writes = [1].to_vec(alloc)?;
+    let mut places = FaultPlaces::with(alloc, Vec::new(alloc), 100, 4, Vec::new(alloc), writes)?;
+    let row = batch(
+        b"restore 1 x\nbackup nosuch\nrestore 1 y\n",
+        5,
+        b"error 5: sink failed\nerror 11: place failed\nrestore 1: 10 bytes, 1 loads\n",
+    );
+    let seen = run_over(alloc, &row, &Limits::standard(), shelf, &mut places)?;
+    assert!(rt; is_as_said(&row, &seen));
+    assert!(rt; places.bytes("x") == Some(b"".as_slice()));
+    assert!(rt; places.bytes("y") == Some(b"abcdabcdab".as_slice()));
     Ok(())
 }
 

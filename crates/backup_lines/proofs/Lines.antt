@@ -209,7 +209,6 @@ module _ (u v : View) (s : ℕ) (config : JobConfig) (limits : Limits) (from to 
     by_fault (fault.BadLine n) full h why = absurd why
     by_fault (fault.ScriptTooLong n) full h why = absurd why
     by_fault (fault.Full a b c) full h why = absurd why
-    by_fault fault.NotEmpty full h why = absurd why
 
     refused_goes : (f : Fault) → K.job ≡ None → BacksUp s config limits u v from to (Err f) → Goes v K.state K.other (Refused f)
     refused_goes f no_job h = by_test (is_full K.state s limits) refl

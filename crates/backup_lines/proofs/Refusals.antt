@@ -44,7 +44,6 @@ module _ (limits : Limits) (s : ℕ) (config : JobConfig) where
   kind_why before now from to read (fault.BadLine n) h = absurd h
   kind_why before now from to read (fault.ScriptTooLong n) h = absurd h
   kind_why before now from to read (fault.Full a b c) h = absurd h
-  kind_why before now from to read fault.NotEmpty h = absurd h
 
   pub kind_err : (u v : View) (from to : SourceTold) (read : List ℕ) (K : Core) (f : Fault) → IsCauseOf s config limits u v from to read K f → IsKind f
   kind_err u v from to read K f why = ⊎_elim
@@ -72,7 +71,6 @@ module _ (s : ℕ) (config : JobConfig) (limits : Limits) (u v : View) (from to 
   cause_why (fault.BadLine n) h = absurd h
   cause_why (fault.ScriptTooLong n) h = absurd h
   cause_why (fault.Full a b c) h = absurd h
-  cause_why fault.NotEmpty h = absurd h
 
   pub cause_err : (K : Core) (f : Fault) → IsCauseOf s config limits u v from to read K f → Rises f
   cause_err K f why = ⊎_elim

@@ -94,7 +94,6 @@ module _ (words : List (List ℕ)) (limits : Limits) (before now : World) (answe
   no_script_fault (fault.LastVersion x y z) batch why = absurd why
   no_script_fault (fault.PlaceFault n) batch why = absurd why
   no_script_fault (fault.Full x y z) batch why = absurd why
-  no_script_fault fault.NotEmpty batch why = absurd why
 
   not_usage : command_of words ≡ None → ⊥
   not_usage nothing = let clash : ◌≡◌ {A = Option Command} None (Some c) = sym nothing ∙ is in cc
@@ -113,7 +112,6 @@ module _ (words : List (List ℕ)) (limits : Limits) (before now : World) (answe
   early (fault.LastVersion x y z) why = no_script_fault (fault.LastVersion x y z) why.0 why.1
   early (fault.PlaceFault n) why = no_script_fault (fault.PlaceFault n) why.0 why.1
   early (fault.Full x y z) why = no_script_fault (fault.Full x y z) why.0 why.1
-  early fault.NotEmpty why = no_script_fault fault.NotEmpty why.0 why.1
 
   ended : (f : Option Fault) → IsSomeAnd f (EndsEarly words limits before now answers) → (answers ≡ []) × (f ≡ Some fault.Memory)
   ended None h = absurd h

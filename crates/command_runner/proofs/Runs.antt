@@ -56,7 +56,6 @@ module _ (words : List (List ℕ)) (limits : Limits) (before now : World) (answe
   script_early (fault.LastVersion a b c) batch why = absurd why
   script_early (fault.PlaceFault n) batch why = absurd why
   script_early (fault.Full a b c) batch why = absurd why
-  script_early fault.NotEmpty batch why = absurd why
 
   untouched : (f : Fault) → now.shelf ≡ before.shelf → LeavesShelfAlone before.shelf now.shelf f
   untouched fault.Memory same = same_shelf before.shelf now.shelf same
@@ -72,7 +71,6 @@ module _ (words : List (List ℕ)) (limits : Limits) (before now : World) (answe
   untouched (fault.LastVersion a b c) same = same_shelf before.shelf now.shelf same
   untouched (fault.PlaceFault n) same = same_shelf before.shelf now.shelf same
   untouched (fault.Full a b c) same = same_shelf before.shelf now.shelf same
-  untouched fault.NotEmpty same = same_shelf before.shelf now.shelf same
 
   refused_script : (f : Option Fault) → IsBatch (command_of words) → IsSomeAnd f (RefusesScript limits before now answers) → IsSomeAnd f (EndsEarly words limits before now answers)
   refused_script None batch h = absurd h

@@ -54,7 +54,6 @@ reader_kind s v (fault.TooMany n) h = h
 reader_kind s v (fault.LastVersion a b c) h = h
 reader_kind s v (fault.PlaceFault n) h = h
 reader_kind s v (fault.Full a b c) h = h
-reader_kind s v fault.NotEmpty h = h
 
 pub reader_causes : (s v : ℕ) (old new : ShelfTold) (out : SinkTold) (f : Fault) → IsReadersFault s v f → CausesRise (counts_of_shelf old) (counts_of_shelf new) (Refused f ∷ []) → CausesRise (counts_of_sink old out) (counts_of_sink new out) (Refused f ∷ [])
 reader_causes s v old new out (fault.WriteFault n) h c = absurd h
@@ -70,7 +69,6 @@ reader_causes s v old new out (fault.TooMany n) h c = record { store = c.store; 
 reader_causes s v old new out (fault.LastVersion x y z) h c = record { store = c.store; place = c.place; read = c.read; write = omega arith }
 reader_causes s v old new out (fault.PlaceFault n) h c = record { store = c.store; place = c.place; read = c.read; write = omega arith }
 reader_causes s v old new out (fault.Full x y z) h c = record { store = c.store; place = c.place; read = c.read; write = omega arith }
-reader_causes s v old new out fault.NotEmpty h c = record { store = c.store; place = c.place; read = c.read; write = omega arith }
 
 pub reader_shown : (S : State) (s v : ℕ) (f : Fault) (out : SinkTold) → IsUnread S s v f → IsShown S s v (Refused f) out out
 reader_shown S s v (fault.NotKept x y z w) out h = (h.0, h.1, h.2, refl)
@@ -86,7 +84,6 @@ reader_shown S s v (fault.TooMany n) out h = absurd h
 reader_shown S s v (fault.LastVersion x y z) out h = absurd h
 reader_shown S s v (fault.PlaceFault n) out h = absurd h
 reader_shown S s v (fault.Full x y z) out h = absurd h
-reader_shown S s v fault.NotEmpty out h = absurd h
 
 -- what was written of a recipe that was read
 
@@ -122,7 +119,6 @@ writing s v r old new before now (Refused (fault.TooMany n)) store write h = abs
 writing s v r old new before now (Refused (fault.LastVersion x y z)) store write h = absurd h
 writing s v r old new before now (Refused (fault.PlaceFault n)) store write h = absurd h
 writing s v r old new before now (Refused (fault.Full x y z)) store write h = absurd h
-writing s v r old new before now (Refused fault.NotEmpty) store write h = absurd h
 writing s v r old new before now (answer.Stored x y z u w p q) store write h = absurd h
 writing s v r old new before now (answer.Restored x y z u) store write h = absurd h
 writing s v r old new before now (answer.Removed x y z u) store write h = absurd h

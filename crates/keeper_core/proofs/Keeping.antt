@@ -148,7 +148,6 @@ due_cases (fault.PlaceFault n) s waits = inl refl
 due_cases (fault.BadLine n) s waits = inl refl
 due_cases (fault.ScriptTooLong n) s waits = inl refl
 due_cases (fault.Full a b c) s waits = inl refl
-due_cases fault.NotEmpty s waits = inl refl
 
 told_both : (P Q R : Blobs → Type 0) (b : Option Blobs) → ((m : Blobs) → P m → Q m → R m) → IfSome b P → IfSome b Q → IfSome b R
 told_both P Q R None f p q = tt

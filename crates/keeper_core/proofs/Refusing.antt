@@ -55,7 +55,6 @@ shelf_fault before now (fault.PlaceFault n) h = absurd h
 shelf_fault before now (fault.BadLine n) h = absurd h
 shelf_fault before now (fault.ScriptTooLong n) h = absurd h
 shelf_fault before now (fault.Full a b c) h = absurd h
-shelf_fault before now fault.NotEmpty h = absurd h
 
 -- a deletion that tried the floor, behind a mending
 pub delete_tried : (u v : View) (K : Core) (h : Change) (f : Fault) (mid : Option History) → IsShelfFault f → Keeps v (after_refused (Some h) None v.memo.strays v.pending K)

@@ -194,7 +194,6 @@ waits_cases (fault.PlaceFault n) q waits = inl refl
 waits_cases (fault.BadLine n) q waits = inl refl
 waits_cases (fault.ScriptTooLong n) q waits = inl refl
 waits_cases (fault.Full a b c) q waits = inl refl
-waits_cases fault.NotEmpty q waits = inl refl
 
 pub waits_why : (f : Fault) (q : Recipe) (s : ℕ) (waits now : Pending) → waits ≡ Not → q.set ≡ s → now ≡ waits_after f q waits → (now ≡ Not) ⊎ (now ≡ FailedFor s)
 waits_why f q s waits now none set is = ⊎_elim

@@ -56,7 +56,6 @@ cause_from old before now P Q up goes (fault.PlaceFault n) h = h
 cause_from old before now P Q up goes (fault.BadLine n) h = h
 cause_from old before now P Q up goes (fault.ScriptTooLong limit) h = h
 cause_from old before now P Q up goes (fault.Full s latest next) h = h
-cause_from old before now P Q up goes fault.NotEmpty h = h
 
 -- a fault that is handed on
 pub causes_again : {U : Type 0} (old before now : ℕ) (P Q : Kind → ℕ → Why → Type 0) → old ≤ before → before ≤ now → ((k : Kind) (n : ℕ) (w : Why) → P k n w → Q k n w) → (f : Fault) → IsCause before now P f

@@ -117,7 +117,6 @@ module _ (v w : View) (s n : ℕ) (below : s < 256) (kept : (K : Core) → Keeps
     unread (fault.BadLine m) c = absurd c
     unread (fault.ScriptTooLong m) c = absurd c
     unread (fault.Full x y z) c = absurd c
-    unread fault.NotEmpty c = absurd c
 
   damage_kind : (q : Kind) (number : ℕ) (why : Why) → IsRecipeDamage v.told.blobs s n q number why → IsTrue (fits_show s n (Refused (fault.Damaged q number why)))
   damage_kind kind.Recipe number why h = subst (λ (m : ℕ). nat_eq m (s * 2 ^ 32 + n) ≡ true) (sym h.0) (own (s * 2 ^ 32 + n))
@@ -139,7 +138,6 @@ module _ (v w : View) (s n : ℕ) (below : s < 256) (kept : (K : Core) → Keeps
   reader (fault.BadLine m) c later = absurd c
   reader (fault.ScriptTooLong m) c later = absurd c
   reader (fault.Full x y z) c later = absurd c
-  reader fault.NotEmpty c later = absurd c
 
   pub reads : (result : Result Recipe Fault) → IfOk result (λ r. (r.set ≡ s) × (r.version ≡ n) × (r.length ≡ length_of r.rows) × (length r.rows < 2 ^ 32))
       → IfOk result (λ r. IsSome v.told.blobs → (K : Core) (k : KeptVersion) → Keeps v K → version_of K.state s n ≡ Some k → SaysVersion r k) → HasCauses v.told.faults w.told.faults (IsRecipeDamage v.told.blobs s n) result

@@ -29,7 +29,6 @@ early_why words limits before now (fault.PlaceFault n) can why = absurd why
 early_why words limits before now (fault.BadLine n) can why = absurd why
 early_why words limits before now (fault.ScriptTooLong n) can why = absurd why
 early_why words limits before now (fault.Full a b c) can why = absurd why
-early_why words limits before now fault.NotEmpty can why = absurd why
 
 early_shelf : (before now : ShelfTold) (f : Fault) → IsStartFault before now f → IsSameBut before now → LeavesShelfAlone before now f
 early_shelf before now fault.Memory why same = same
@@ -45,7 +44,6 @@ early_shelf before now (fault.PlaceFault n) why same = absurd why
 early_shelf before now (fault.BadLine n) why same = absurd why
 early_shelf before now (fault.ScriptTooLong n) why same = absurd why
 early_shelf before now (fault.Full a b c) why same = absurd why
-early_shelf before now fault.NotEmpty why same = absurd why
 
 module _ (words : List (List ℕ)) (limits : Limits) (before now : World) (input : SourceTold) (answers : List Answer) where
   pub ends : (f : Fault) → CanOpen (command_of words) limits before.input → IsBatch (command_of words) ⊎ (input ≡ before.input) → EndsAtOpening (with_input before input) now answers f

@@ -56,7 +56,6 @@ later_fault limit from mid to text (fault.LastVersion a b c) h e = absurd (e lim
 later_fault limit from mid to text (fault.PlaceFault n) h e = absurd (e limit)
 later_fault limit from mid to text (fault.BadLine n) h e = absurd (e limit)
 later_fault limit from mid to text (fault.Full a b c) h e = absurd (e limit)
-later_fault limit from mid to text fault.NotEmpty h e = absurd (e limit)
 
 -- a fault that is handed on
 pub refused_again : {T : Type 0} (P : Fault → Type 0) (r : Result T Fault) (f : Fault) → IsErrAnd r (λ g. g ≡ f) → P f → IfErr r P
@@ -89,7 +88,6 @@ text_refused limits from to (fault.LastVersion a b c) e = absurd e
 text_refused limits from to (fault.PlaceFault n) e = absurd e
 text_refused limits from to (fault.BadLine n) e = absurd e
 text_refused limits from to (fault.Full a b c) e = absurd e
-text_refused limits from to fault.NotEmpty e = absurd e
 
 pub lines_refused : (limits : Limits) (from to : SourceTold) (text : List ℕ) (f : Fault) → HasGiven from to text → length text ≤ limits.script → IsAtEnd to
     → (f ≡ fault.Memory) ⊎ ((n : ℕ) × (f ≡ fault.BadLine n) × (script_of text ≡ Err n)) → IsScriptFault limits from to f

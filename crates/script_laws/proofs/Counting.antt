@@ -32,7 +32,6 @@ counted_once (Refused (fault.LastVersion t through latest)) rest s p r w is = is
 counted_once (Refused (fault.BadLine n)) rest s p r w is = is
 counted_once (Refused (fault.ScriptTooLong limit)) rest s p r w is = is
 counted_once (Refused (fault.Full t latest next)) rest s p r w is = is
-counted_once (Refused fault.NotEmpty) rest s p r w is = is
 counted_once (Stored t v chunks bytes containers written sparse) rest s p r w is = is
 counted_once (Restored t v bytes loads) rest s p r w is = is
 counted_once (Removed t through floor reclaimed) rest s p r w is = is

@@ -142,7 +142,6 @@ may_backup limits S s name config (Refused f) h = same f h
     same (fault.BadLine n) h = h
     same (fault.ScriptTooLong n) h = h
     same (fault.Full a b c) h = h
-    same fault.NotEmpty h = h
 may_backup limits S s name config (Stored a b c d e f g) h = h
 may_backup limits S s name config (Restored a b c d) h = h
 may_backup limits S s name config (Removed a b c d) h = h
@@ -167,7 +166,6 @@ may_restore limits S s v name cache (Refused f) h = same f h
     same (fault.BadLine n) h = h
     same (fault.ScriptTooLong n) h = h
     same (fault.Full a b c) h = h
-    same fault.NotEmpty h = h
 may_restore limits S s v name cache (Stored a b c d e f g) h = h
 may_restore limits S s v name cache (Restored a b c d) h = h
 may_restore limits S s v name cache (Removed a b c d) h = h
@@ -255,7 +253,6 @@ read_kind limits s name config (fault.PlaceFault n) m h = h
 read_kind limits s name config (fault.BadLine n) m h = h
 read_kind limits s name config (fault.ScriptTooLong n) m h = h
 read_kind limits s name config (fault.Full a b c) m h = h
-read_kind limits s name config fault.NotEmpty m h = h
 
 -- ---- counts
 
@@ -305,7 +302,6 @@ causes_read (fault.PlaceFault n) s0 s1 p0 p1 r0 r1 w0 w1 k c le wle is = causes_
 causes_read (fault.BadLine n) s0 s1 p0 p1 r0 r1 w0 w1 k c le wle is = causes_source _ s0 s1 p0 p1 r0 r1 w0 w1 k c le wle is refl
 causes_read (fault.ScriptTooLong n) s0 s1 p0 p1 r0 r1 w0 w1 k c le wle is = causes_source _ s0 s1 p0 p1 r0 r1 w0 w1 k c le wle is refl
 causes_read (fault.Full x y z) s0 s1 p0 p1 r0 r1 w0 w1 k c le wle is = causes_source _ s0 s1 p0 p1 r0 r1 w0 w1 k c le wle is refl
-causes_read fault.NotEmpty s0 s1 p0 p1 r0 r1 w0 w1 k c le wle is = causes_source _ s0 s1 p0 p1 r0 r1 w0 w1 k c le wle is refl
 
 pub done_no_read : (a : Answer) → is_refused a ≡ false → read_number a ≡ None
 done_no_read (Refused f) e = cc
@@ -333,7 +329,6 @@ kind_backup limits s name config (Refused f) h = read_same f h
     read_same (fault.BadLine n) h = h
     read_same (fault.ScriptTooLong n) h = h
     read_same (fault.Full a b c) h = h
-    read_same fault.NotEmpty h = h
 kind_backup limits s name config (Stored a b c d e f g) h = h
 kind_backup limits s name config (Restored a b c d) h = h
 kind_backup limits s name config (Removed a b c d) h = h
@@ -400,7 +395,6 @@ kind_restore limits s v name cache (Refused f) h = same f h
     same (fault.BadLine n) h = h
     same (fault.ScriptTooLong n) h = h
     same (fault.Full a b c) h = h
-    same fault.NotEmpty h = h
 kind_restore limits s v name cache (Stored a b c d e f g) h = h
 kind_restore limits s v name cache (Restored a b c d) h = h
 kind_restore limits s v name cache (Removed a b c d) h = h
@@ -422,7 +416,6 @@ write_kind limits s v name cache (fault.PlaceFault n) m h = h
 write_kind limits s v name cache (fault.BadLine n) m h = h
 write_kind limits s v name cache (fault.ScriptTooLong n) m h = h
 write_kind limits s v name cache (fault.Full a b c) m h = h
-write_kind limits s v name cache fault.NotEmpty m h = h
 
 renumber_write_exact : (limits : Limits) (S : State) (s v : ℕ) (name : List ℕ) (cache n m : ℕ) → IsExact limits S (Restore s v name cache) (Refused (fault.WriteFault n)) → IsExact limits S (Restore s v name cache) (Refused (fault.WriteFault m))
 renumber_write_exact limits S s v name cache n m h = by (is_kept S s v) h
@@ -469,7 +462,6 @@ causes_write (fault.PlaceFault n) s0 s1 p0 p1 r0 r1 w0 w1 k c le rle is = causes
 causes_write (fault.BadLine n) s0 s1 p0 p1 r0 r1 w0 w1 k c le rle is = causes_sink _ s0 s1 p0 p1 r0 r1 w0 w1 k c le rle is refl
 causes_write (fault.ScriptTooLong n) s0 s1 p0 p1 r0 r1 w0 w1 k c le rle is = causes_sink _ s0 s1 p0 p1 r0 r1 w0 w1 k c le rle is refl
 causes_write (fault.Full x y z) s0 s1 p0 p1 r0 r1 w0 w1 k c le rle is = causes_sink _ s0 s1 p0 p1 r0 r1 w0 w1 k c le rle is refl
-causes_write fault.NotEmpty s0 s1 p0 p1 r0 r1 w0 w1 k c le rle is = causes_sink _ s0 s1 p0 p1 r0 r1 w0 w1 k c le rle is refl
 
 pub done_no_write : (a : Answer) → is_refused a ≡ false → write_number a ≡ None
 done_no_write (Refused f) e = cc
@@ -557,7 +549,6 @@ written_output limits S s v cache answer old new before now s0 s1 k0 k1 kept kin
     by (Refused (fault.BadLine n)) kind place due done = other refl
     by (Refused (fault.ScriptTooLong n)) kind place due done = other refl
     by (Refused (fault.Full a b c)) kind place due done = other refl
-    by (Refused fault.NotEmpty) kind place due done = other refl
 
 pub numbered_output : (bytes : List ℕ) (f : Fault) (m : ℕ) (before now : Option (List ℕ)) → IsOutput bytes (Refused f) before now → IsOutput bytes (Refused (write_numbered m f)) before now
 numbered_output bytes (fault.WriteFault n) m before now h = h

@@ -191,7 +191,7 @@ fn each_fault_has_its_line(rt: HostRuntime) {
         number,
         why: Why::Absent,
     };
-    let rows: [(Fault, &[u8]); 17] = [
+    let rows: [(Fault, &[u8]); 16] = [
         (Fault::Usage, b"error 2: usage\n"),
         (
             Fault::NotKept {
@@ -245,7 +245,6 @@ fn each_fault_has_its_line(rt: HostRuntime) {
             },
             b"error 14: store full\n",
         ),
-        (Fault::NotEmpty, b"error 15: store not empty\n"),
     ];
     for (fault, line) in rows {
         let mut out = [0; 256];

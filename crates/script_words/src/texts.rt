@@ -119,7 +119,6 @@ fn fault_words(fault: &Fault, line: &mut Buffer)
         }
         Fault::ScriptTooLong { .. } => line.text(b"error 12: script too long"),
         Fault::Full { .. } => line.text(b"error 14: store full"),
-        Fault::NotEmpty => line.text(b"error 15: store not empty"),
     }
 }
 

@@ -59,7 +59,6 @@ put_is_cause b now to read (fault.PlaceFault n) h = absurd h
 put_is_cause b now to read (fault.BadLine n) h = absurd h
 put_is_cause b now to read (fault.ScriptTooLong limit) h = absurd h
 put_is_cause b now to read (fault.Full s latest next) h = absurd h
-put_is_cause b now to read fault.NotEmpty h = absurd h
 
 settled_is_cause : (b : Began) (now : View) (to : SourceTold) (read : List ℕ) (f : Fault) → IsTooMany b read f → IsBackupFault b.config b.limits b.keeper.told.faults now.told.faults b.source to read f
 settled_is_cause b now to read fault.Memory h = tt
@@ -75,7 +74,6 @@ settled_is_cause b now to read (fault.PlaceFault n) h = absurd h
 settled_is_cause b now to read (fault.BadLine n) h = absurd h
 settled_is_cause b now to read (fault.ScriptTooLong limit) h = absurd h
 settled_is_cause b now to read (fault.Full s latest next) h = absurd h
-settled_is_cause b now to read fault.NotEmpty h = absurd h
 
 all_is_cause : (b : Began) (now : View) (to : SourceTold) (read : List ℕ) (f : Fault) → IsAtEnd to → IsTooManyInAll b read f → IsBackupFault b.config b.limits b.keeper.told.faults now.told.faults b.source to read f
 all_is_cause b now to read fault.Memory end h = tt
@@ -91,7 +89,6 @@ all_is_cause b now to read (fault.PlaceFault n) end h = absurd h
 all_is_cause b now to read (fault.BadLine n) end h = absurd h
 all_is_cause b now to read (fault.ScriptTooLong limit) end h = absurd h
 all_is_cause b now to read (fault.Full s latest next) end h = absurd h
-all_is_cause b now to read fault.NotEmpty end h = absurd h
 
 -- a source that gave some bytes and then some more
 pub gives_more : (a b c : Option (List ℕ)) (x y : List ℕ) → Gives a b x → Gives b c y → Gives a c (x ++ y)

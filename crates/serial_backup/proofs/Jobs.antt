@@ -40,7 +40,6 @@ put_cause old before now later (fault.PlaceFault n) h = h
 put_cause old before now later (fault.BadLine n) h = h
 put_cause old before now later (fault.ScriptTooLong limit) h = h
 put_cause old before now later (fault.Full s latest next) h = h
-put_cause old before now later fault.NotEmpty h = h
 
 -- blobs that stand for the state are near it, whatever change there may be
 pub near_any : (S : State) (other : Option Change) (c : Blobs) → IsNear S None c → IsNear S other c

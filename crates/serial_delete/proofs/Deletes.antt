@@ -118,7 +118,6 @@ store_fault before now latest n (fault.PlaceFault m) low h = absurd h
 store_fault before now latest n (fault.BadLine m) low h = absurd h
 store_fault before now latest n (fault.ScriptTooLong m) low h = absurd h
 store_fault before now latest n (fault.Full a b c) low h = absurd h
-store_fault before now latest n fault.NotEmpty low h = absurd h
 
 abbrev fault_or : Fault → Result Answer Fault → Fault
 fault_or other (Ok a) = other

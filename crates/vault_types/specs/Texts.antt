@@ -39,7 +39,6 @@ fault_text (fault.PlaceFault n) = codes "error 11: place failed"
 fault_text (fault.BadLine n) = codes "error 12: bad script, line " ++ decimal n
 fault_text (fault.ScriptTooLong limit) = codes "error 12: script too long"
 fault_text (fault.Full s latest next) = codes "error 14: store full"
-fault_text fault.NotEmpty = codes "error 15: store not empty"
 
 -- the report line of a fault, with its line feed
 abbrev pub fault_line : Fault → List ℕ
@@ -60,7 +59,6 @@ status_of (fault.PlaceFault n) = 11
 status_of (fault.BadLine n) = 12
 status_of (fault.ScriptTooLong limit) = 12
 status_of (fault.Full s latest next) = 14
-status_of fault.NotEmpty = 15
 
 -- the report line of an answer; what `show` found has none
 abbrev pub answer_text : Answer → List ℕ

@@ -237,9 +237,6 @@ pub enum Fault {
         latest: Version,
         next: Id,
     },
-
-    /// The shelf has blobs, which this program cannot open yet.
-    NotEmpty,
 }
 
 impl From<Memory> for Fault {
@@ -460,7 +457,6 @@ impl Fault {
             Fault::BadLine(_) => 12,
             Fault::ScriptTooLong { .. } => 12,
             Fault::Full { .. } => 14,
-            Fault::NotEmpty => 15,
         }
     }
 }

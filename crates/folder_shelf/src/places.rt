@@ -47,9 +47,12 @@ where
 
     type Writer = StreamSink<R::File>;
 
+    ghost use Rattle.std.specs.Prelude.{None};
     ghost use Rattle.folder_shelf.specs.Silent.{silent_places};
 
     ghost told = { silent_places };
+
+    ghost room = { None };
 
     fn open_source(&mut self, _alloc: Global, name: &str) -> Result<Self::Reader, Refused> {
         match File::open(&self.files, name) {

@@ -76,6 +76,8 @@ impl Places for FaultPlaces {
 
     ghost told = { λ p. record { files = Some (file_at p.places.files); faults = p.places.faults; read_faults = p.places.read_faults; write_faults = p.places.write_faults } };
 
+    ghost room = { None };
+
     fn open_source(&mut self, alloc: Global, name: &str) -> Result<FaultSource, Refused>
         ensures bytes { IfOk result (λ r. Some r.left ≡ file_at self.old.places.files name.now) }
         ensures reader { IfOk result (λ r. r ≡ reader_of r.left self.old.piece self.old.reads) }

@@ -85,6 +85,8 @@ impl Places for MemPlaces {
 
     ghost told = { λ p. record { files = Some (file_at p.files); faults = p.faults; read_faults = p.read_faults; write_faults = p.write_faults } };
 
+    ghost room = { None };
+
     fn open_source(&mut self, alloc: Global, name: &str) -> Result<MemSource, Refused>
         ensures reader { IfOk result (λ r. Some r.left ≡ file_at self.old.files name.now) }
         ensures piece { IfOk result (λ r. r.piece ≡ 2 ^ 64 - 1) }

@@ -1,5 +1,5 @@
 -- What the calls of places do to the bytes under their names.
-use Rattle.std.specs.Prelude.{◌≡◌, ◌≢◌, ◌⊎◌, ℕ, List, [], Option, None, Some, IsSome, IfSome}
+use Rattle.std.specs.Prelude.{◌≡◌, ◌≢◌, ◌⊎◌, ◌≤◌, ◌<◌, ℕ, List, [], length, Option, None, Some, IsSome, IfSome}
 use Rattle.vault_traits.specs.Told.{Files, SourceTold, SinkTold}
 
 -- what a name has becomes something, and each other name keeps its bytes; who tells goes on telling, who doesn't goes on so
@@ -42,3 +42,7 @@ IsWhatWasTaken taken before after = IfSome taken (λ bytes. after ≡ Some bytes
 -- the name is there, where that is told
 abbrev pub IsThere : Option Files → List ℕ → Type 0
 IsThere files name = IfSome files (λ f. IsSome (f name))
+
+-- a writer has failed only where it has taken as many bytes as it has room for, if its room is told
+abbrev pub FailsOnlyFull : Option ℕ → SinkTold → Type 0
+FailsOnlyFull room writer = IfSome room (λ most. 0 < writer.faults → IfSome writer.taken (λ taken. most ≤ length taken))

@@ -1,8 +1,8 @@
 // Places: sources and sinks by their names.
-ghost use Rattle.std.specs.Prelude.{◌≡◌, IfOk, OnOk, OnErr};
+ghost use Rattle.std.specs.Prelude.{◌≡◌, ℕ, Option, IfOk, OnOk, OnErr};
 ghost use Rattle.vault_traits.specs.Counts.{added, HasCause};
 ghost use Rattle.vault_traits.specs.Told.{PlacesTold};
-ghost use Rattle.vault_traits.specs.Files.{ChangesOnly, AreKept, IsReaderOf, IsNewWriter, IsEmptied, MayBeEmptied, IsWhatWasTaken, IsThere};
+ghost use Rattle.vault_traits.specs.Files.{ChangesOnly, AreKept, IsReaderOf, IsNewWriter, IsEmptied, MayBeEmptied, IsWhatWasTaken, IsThere, FailsOnlyFull};
 
 use crate::{Refused, Sink, Source};
 use std::alloc::Global;
@@ -16,6 +16,9 @@ pub trait Places {
 
     /// The bytes under each name, where the places tell them, and how often openings, readers and writers failed.
     ghost told: { Self → PlacesTold };
+
+    /// How many bytes a writer takes before it fails, where that is told of every writer.
+    ghost room: { Option ℕ };
 
     /// A reader with all bytes of the name left, that has not failed. A name that is not there is a failed opening.
     fn open_source(&mut self, alloc: Global, name: &str) -> Result<Self::Reader, Refused>
@@ -45,6 +48,7 @@ pub trait Places {
     /// Gives the name what the writer took; its faults are counted as `write_faults`. It takes no memory.
     fn close_sink(&mut self, name: &str, writer: Self::Writer)
         requires { IsThere (told self.old).files name.now }
+        ensures room { FailsOnlyFull room (Self.Writer.told writer) }
         ensures files { ChangesOnly (told self.old).files (told self.new).files name.now (IsWhatWasTaken (Self.Writer.told writer).taken) }
         ensures faults { (told self.new).faults ≡ (told self.old).faults }
         ensures read_faults { (told self.new).read_faults ≡ (told self.old).read_faults }

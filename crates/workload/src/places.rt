@@ -69,6 +69,8 @@ impl Places for FillPlaces {
 
     ghost told = { λ p. record { files = Some (file_at p.seed p.places); faults = p.faults; read_faults = 0; write_faults = p.write_faults } };
 
+    ghost room = { None };
+
     /// A reader of the version that the name gives, from its first byte on. It fails exactly where the name gives none,
     /// and takes no memory.
     fn open_source(&mut self, _alloc: Global, name: &str) -> Result<Generated, Refused>

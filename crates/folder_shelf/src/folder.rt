@@ -1,4 +1,7 @@
 // A folder with a file for each blob. A crash leaves each blob whole, as it was before or as it was written.
+//
+// The last two blobs of containers may still be on their way to the disk, in files with `.new` at their ends, which get
+// the blobs' names once they are there, at a later call. Each call but the write of such a blob waits for that first.
 ghost use Rattle.std.specs.Prelude.{◌≡◌, ◌++◌, codes, IfOk, OnOk, string_bytes};
 ghost use Rattle.folder_shelf.specs.FileNames.{file_name, HasFile};
 
@@ -7,15 +10,23 @@ use std::alloc::{AllocError, Global};
 use std::fs::{File, Files, OpenFile};
 use std::io;
 use std::io::{ErrorKind, Read, Write};
+use std::os::fd::AsRawFd;
 use std::path::Path;
 use vault_traits::{Failed, Refused};
-use vault_types::Name;
+use vault_types::{Kind, Name};
 
 // A file name takes at most 24 bytes, and that of a file that is not yet renamed 4 more.
 const ROOM: usize = 32;
 
 // How many bytes of file names are read at once.
 const LISTED: usize = 16_384;
+
+// A file that was written, and the blob whose file it becomes.
+#[derive(Drop)]
+struct Written<F> {
+    file: F,
+    name: Name,
+}
 
 #[derive(Drop)]
 pub struct Folder<R: Files> {
@@ -27,9 +38,17 @@ pub struct Folder<R: Files> {
     // room for the path of a blob's file, and of the file that is written before it has its name
     place: String,
     fresh: String,
+    // what was written and has not its name yet
+    older: Option<Written<R::File>>,
+    newer: Option<Written<R::File>>,
+    // whether bytes that have their name could not be brought to the disk
+    torn: bool,
 }
 
-impl<R: Files> Folder<R> {
+impl<R: Files> Folder<R>
+where
+    R::File: AsRawFd,
+{
     // Opens the folder, and makes it where it is absent.
     pub fn open(alloc: Global, files: R, path: &str) -> Result<Self, Refused>
     where
@@ -45,6 +64,9 @@ impl<R: Files> Folder<R> {
                 path: with_slash,
                 place,
                 fresh,
+                older: None,
+                newer: None,
+                torn: false,
             }),
             Err(_) => Err(Refused::Failed),
         }
@@ -55,6 +77,7 @@ impl<R: Files> Folder<R> {
         if !has_file(name) {
             return Ok(None);
         }
+        self.finish()?;
         write_path(&mut self.place, self.path.as_str(), name)?;
         match File::open(&self.files, self.place.as_str()) {
             Ok(mut file) => Ok(Some(read_whole(alloc, &mut file)?)),
@@ -63,21 +86,99 @@ impl<R: Files> Folder<R> {
         }
     }
 
-    // Writes a blob: its bytes are on the disk before they have its name.
+    // Writes a blob. A recipe or a floor is on the disk before it has its name; the bytes of a container set out for it.
     pub fn write(&mut self, name: Name, bytes: &[u8]) -> Result<(), Refused> {
         if !has_file(name) {
             return Err(Refused::Failed);
         }
+        let is_container = match name.kind {
+            Kind::Table => true,
+            Kind::Payload => true,
+            Kind::Recipe => false,
+            Kind::Floor => false,
+        };
+        if !is_container || self.newer.is_some() || self.waits(name) {
+            self.finish()?;
+        }
         write_path(&mut self.place, self.path.as_str(), name)?;
         write_fresh_path(&mut self.fresh, self.place.as_str())?;
-        let (fresh, place) = (self.fresh.as_str(), self.place.as_str());
-        match replace(&self.files, fresh, place, bytes) {
+        let answer = if is_container {
+            self.send(name, bytes)
+        } else {
+            replace(&self.files, self.fresh.as_str(), self.place.as_str(), bytes)
+        };
+        match answer {
             Ok(()) => Ok(()),
             Err(_) => {
                 // It gives the disk's room back, if it can.
-                let _ = self.files.remove_file(fresh);
+                let _ = self.files.remove_file(self.fresh.as_str());
                 Err(Refused::Failed)
             }
+        }
+    }
+
+    // Writes the file whose path is `fresh`, which waits for its name.
+    fn send(&mut self, name: Name, bytes: &[u8]) -> io::Result<()> {
+        let file = write_fresh(&self.files, self.fresh.as_str(), bytes)?;
+        let written = Written { file, name };
+        if self.older.is_none() {
+            self.older = Some(written);
+        } else {
+            self.newer = Some(written);
+        }
+        Ok(())
+    }
+
+    // Whether the last write but one, whose file has not its name yet, was of this blob.
+    fn waits(&self, name: Name) -> bool {
+        match &self.older {
+            Some(written) => written.name == name,
+            None => false,
+        }
+    }
+
+    // Waits until all that was written is on the disk, and has its name.
+    fn finish(&mut self) -> Result<(), Failed> {
+        self.finish_older()?;
+        self.older = self.newer.take();
+        self.finish_older()
+    }
+
+    // Waits for the older of two files. Where its bytes can't be brought to the disk, it gets its name as well, and no
+    // settling succeeds from then on; where it can't get its name, it goes on waiting.
+    fn finish_older(&mut self) -> Result<(), Failed> {
+        let Some(written) = self.older.take() else {
+            return Ok(());
+        };
+        let is_there = written.file.sync_all().is_ok();
+        if !is_there {
+            self.torn = true;
+        }
+        match self.give_name(written.name) {
+            Ok(()) if is_there => Ok(()),
+            Ok(()) => Err(Failed),
+            Err(Failed) => {
+                self.older = Some(written);
+                Err(Failed)
+            }
+        }
+    }
+
+    fn give_name(&mut self, name: Name) -> Result<(), Failed> {
+        if !has_file(name) {
+            return Err(Failed);
+        }
+        match write_path(&mut self.place, self.path.as_str(), name) {
+            Ok(()) => {}
+            Err(_) => return Err(Failed),
+        }
+        match write_fresh_path(&mut self.fresh, self.place.as_str()) {
+            Ok(()) => {}
+            Err(_) => return Err(Failed),
+        }
+        match self.files.rename(self.fresh.as_str(), self.place.as_str()) {
+            Ok(()) => Ok(()),
+            Err(_) => Err(Failed),
         }
     }
 
@@ -86,6 +187,7 @@ impl<R: Files> Folder<R> {
         if !has_file(name) {
             return Ok(());
         }
+        self.finish()?;
         match write_path(&mut self.place, self.path.as_str(), name) {
             Ok(()) => {}
             Err(_) => return Err(Failed),
@@ -99,6 +201,7 @@ impl<R: Files> Folder<R> {
 
     // The names of the files that are there, each once, by kind and then by number. Other files are left out.
     pub fn list(&mut self, alloc: Global) -> Result<Vec<Name>, Refused> {
+        self.finish()?;
         let mut names = Vec::new(alloc);
         let Ok(mut listing) = self.files.open_dir(self.path.as_str()) else {
             return Err(Refused::Failed);
@@ -116,11 +219,12 @@ impl<R: Files> Folder<R> {
         Ok(names)
     }
 
-    // Which file has which name is on the disk after it.
+    // All that was written is on the disk after it, and which file has which name.
     pub fn settle(&mut self) -> Result<(), Failed> {
+        self.finish()?;
         match self.itself.sync_all() {
-            Ok(()) => Ok(()),
-            Err(_) => Err(Failed),
+            Ok(()) if !self.torn => Ok(()),
+            _ => Err(Failed),
         }
     }
 }
@@ -178,6 +282,18 @@ fn write_through<R: Files>(files: &R, path: &str, bytes: &[u8]) -> io::Result<()
     let mut file = File::create(files, path)?;
     file.write_all(bytes)?;
     file.sync_all()
+}
+
+// Writes the bytes to a file of their own, and has the system begin to bring them to the disk, which is advice and can't
+// fail.
+fn write_fresh<R: Files>(files: &R, path: &str, bytes: &[u8]) -> io::Result<R::File>
+where
+    R::File: AsRawFd,
+{
+    let mut file = File::create(files, path)?;
+    file.write_all(bytes)?;
+    let _ = libc::posix_fadvise(file.as_raw_fd(), 0, 0, libc::POSIX_FADV_DONTNEED);
+    Ok(file)
 }
 
 // Adds the blobs' names among file names that each end with a NUL.

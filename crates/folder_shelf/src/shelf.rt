@@ -9,14 +9,17 @@ use crate::streams::count;
 use std::alloc::Global;
 use std::fs::Files;
 use std::marker::Model;
+use std::os::fd::AsRawFd;
 use vault_traits::{Failed, Refused, Shelf};
 use vault_types::{Fault, Kind, Name, Set};
 
 /// A shelf over a folder: a file for each blob, with the file names of `names`.
 ///
-/// A `put` writes the bytes to a file with `.new` at its end, waits until they are on the disk, and renames it;
-/// `settle` waits until the folder's names are on the disk. So a crash leaves each blob whole, with its old or its new
-/// content. A name without a file name has no blob and takes none: a `put` of it is a fault. `put_floor`, `remove`
+/// A `put` writes the bytes to a file with `.new` at its end, which is renamed once they are on the disk. A table and a
+/// payload may be on their way while the next ones are made: a later call waits for them, and `settle` waits until all
+/// of them and the folder's names are on the disk. So a crash leaves each blob whole, with its old or its new content.
+/// Where a table or a payload can't be brought to the disk, the call that waited for it fails, and each `settle` from then
+/// on. A name without a file name has no blob and takes none: a `put` of it is a fault. `put_floor`, `remove`
 /// and `settle` count a refusal of memory by the host as a fault. Nothing is told of content.
 #[derive(Drop)]
 pub struct FolderShelf<R: Files> {
@@ -33,7 +36,10 @@ impl<R: Files> Model for FolderShelf<R> {
     ghost view = { λ s. record { faults = s.faults; gets = s.gets } };
 }
 
-impl<R: Files> FolderShelf<R> {
+impl<R: Files> FolderShelf<R>
+where
+    R::File: AsRawFd,
+{
     /// A shelf over the folder at this path, which is made where it is absent. `StoreFault(1)` says that this failed.
     pub fn start(alloc: Global, files: R, path: &str) -> Result<Self, Fault>
     where
@@ -53,7 +59,10 @@ impl<R: Files> FolderShelf<R> {
     }
 }
 
-impl<R: Files> Shelf for FolderShelf<R> {
+impl<R: Files> Shelf for FolderShelf<R>
+where
+    R::File: AsRawFd,
+{
     ghost use Rattle.folder_shelf.specs.Silent.{silent_shelf, none_told};
 
     ghost told = { silent_shelf };

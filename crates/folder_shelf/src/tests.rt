@@ -110,6 +110,45 @@ fn a_shelf_keeps_each_blob_in_a_file(rt: HostRuntime) -> io::Result<()> {
     Ok(())
 }
 
+// Blobs of containers get their names at a later call: two may wait, of two names, and a settling leaves none.
+#[test]
+fn containers_get_their_names_later(rt: HostRuntime) -> io::Result<()> {
+    let Ok(mut shelf) = FolderShelf::start(rt.alloc(), rt, "store") else {
+        panic!(rt; "the folder was not made");
+    };
+    let payload = name(Kind::Payload, 1);
+    let table = name(Kind::Table, 1);
+    assert_eq!(rt; shelf.put(rt.alloc(), payload, b"old"), Ok(()));
+    assert!(rt; fs::exists(&rt, "store/payload-0000000000000001.new")?);
+    assert_eq!(rt; shelf.put(rt.alloc(), payload, b"new"), Ok(()));
+    assert_eq!(rt; shelf.put(rt.alloc(), table, b"rows"), Ok(()));
+    assert!(rt; !fs::exists(&rt, "store/table-0000000000000001")?);
+    let Ok(Some(bytes)) = shelf.get(rt.alloc(), payload) else {
+        panic!(rt; "the payload was not read");
+    };
+    assert_eq!(rt; bytes.as_slice(), b"new".as_slice());
+    for number in 2..6 {
+        assert_eq!(rt;
+            shelf.put(rt.alloc(), name(Kind::Payload, number), b"more"),
+            Ok(())
+        );
+    }
+    assert_eq!(rt; shelf.settle(), Ok(()));
+    for file in [
+        "payload-0000000000000001",
+        "payload-0000000000000005",
+        "table-0000000000000001",
+    ] {
+        let mut path = String::from_str(rt.alloc(), "store/")?;
+        path.push_str(file)?;
+        assert!(rt; fs::exists(&rt, path.as_str())?, "{file}");
+        path.push_str(".new")?;
+        assert!(rt; !fs::exists(&rt, path.as_str())?, "{file}");
+    }
+    assert_eq!(rt; shelf.faults(), 0);
+    Ok(())
+}
+
 #[test]
 fn failures_of_the_folder_are_counted(rt: HostRuntime) -> io::Result<()> {
     fs::write(&rt, "file", "in its place")?;

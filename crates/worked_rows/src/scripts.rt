@@ -47,6 +47,12 @@ fn what_is_sparse_is_written_again(rt: HostRuntime) -> Result<(), Fail> {
             0,
             b"backup 1: 4 chunks, 16 bytes, 1 new containers, 16 bytes written, 0 sparse\nbackup 2: 1 chunks, 4 bytes, 0 new containers, 0 bytes written, 0 sparse\nbackup 3: 3 chunks, 12 bytes, 0 new containers, 0 bytes written, 0 sparse\n",
         ),
+        // what is sparse in one set's version is not rewritten in another set
+        batch(
+            b"backup a chunk=fixed size=4 rewrite=none container=16\nbackup b set=1 chunk=fixed size=4 rewrite=none limit=100\nbackup c chunk=fixed size=4 rewrite=har\n",
+            0,
+            b"backup 1: 4 chunks, 16 bytes, 1 new containers, 16 bytes written, 0 sparse\nbackup 1/1: 1 chunks, 4 bytes, 0 new containers, 0 bytes written, 1 sparse\nbackup 2: 3 chunks, 12 bytes, 0 new containers, 0 bytes written, 0 sparse\n",
+        ),
         batch(
             b"backup a chunk=fixed size=4 rewrite=none container=16\nbackup b chunk=fixed size=4 rewrite=none limit=100\nbackup c chunk=fixed size=4 rewrite=both cap=1\n",
             0,

@@ -10,7 +10,6 @@ use std::alloc::{AllocError, Global};
 use std::fs::{File, Files, OpenFile};
 use std::io;
 use std::io::{ErrorKind, Read, Write};
-use std::os::fd::AsRawFd;
 use std::path::Path;
 use vault_traits::{Failed, Refused};
 use vault_types::{Kind, Name};
@@ -20,13 +19,6 @@ const ROOM: usize = 32;
 
 // How many bytes of file names are read at once.
 const LISTED: usize = 16_384;
-
-// A file that was written, and the blob whose file it becomes.
-#[derive(Drop)]
-struct Written<F> {
-    file: F,
-    name: Name,
-}
 
 #[derive(Drop)]
 pub struct Folder<R: Files> {
@@ -38,17 +30,14 @@ pub struct Folder<R: Files> {
     // room for the path of a blob's file, and of the file that is written before it has its name
     place: String,
     fresh: String,
-    // what was written and has not its name yet
-    older: Option<Written<R::File>>,
-    newer: Option<Written<R::File>>,
+    // the blobs that were written and whose files have not their names yet
+    older: Option<Name>,
+    newer: Option<Name>,
     // whether bytes that have their name could not be brought to the disk
     torn: bool,
 }
 
-impl<R: Files> Folder<R>
-where
-    R::File: AsRawFd,
-{
+impl<R: Files> Folder<R> {
     // Opens the folder, and makes it where it is absent.
     pub fn open(alloc: Global, files: R, path: &str) -> Result<Self, Refused>
     where
@@ -119,20 +108,19 @@ where
 
     // Writes the file whose path is `fresh`, which waits for its name.
     fn send(&mut self, name: Name, bytes: &[u8]) -> io::Result<()> {
-        let file = write_fresh(&self.files, self.fresh.as_str(), bytes)?;
-        let written = Written { file, name };
+        send_off(&self.files, self.fresh.as_str(), bytes)?;
         if self.older.is_none() {
-            self.older = Some(written);
+            self.older = Some(name);
         } else {
-            self.newer = Some(written);
+            self.newer = Some(name);
         }
         Ok(())
     }
 
     // Whether the last write but one, whose file has not its name yet, was of this blob.
     fn waits(&self, name: Name) -> bool {
-        match &self.older {
-            Some(written) => written.name == name,
+        match self.older {
+            Some(older) => older == name,
             None => false,
         }
     }
@@ -147,24 +135,9 @@ where
     // Waits for the older of two files. Where its bytes can't be brought to the disk, it gets its name as well, and no
     // settling succeeds from then on; where it can't get its name, it goes on waiting.
     fn finish_older(&mut self) -> Result<(), Failed> {
-        let Some(written) = self.older.take() else {
+        let Some(name) = self.older else {
             return Ok(());
         };
-        let is_there = written.file.sync_all().is_ok();
-        if !is_there {
-            self.torn = true;
-        }
-        match self.give_name(written.name) {
-            Ok(()) if is_there => Ok(()),
-            Ok(()) => Err(Failed),
-            Err(Failed) => {
-                self.older = Some(written);
-                Err(Failed)
-            }
-        }
-    }
-
-    fn give_name(&mut self, name: Name) -> Result<(), Failed> {
         if !has_file(name) {
             return Err(Failed);
         }
@@ -176,10 +149,15 @@ where
             Ok(()) => {}
             Err(_) => return Err(Failed),
         }
-        match self.files.rename(self.fresh.as_str(), self.place.as_str()) {
-            Ok(()) => Ok(()),
-            Err(_) => Err(Failed),
+        let is_there = sync_file(&self.files, self.fresh.as_str()).is_ok();
+        if !is_there {
+            self.torn = true;
         }
+        match self.files.rename(self.fresh.as_str(), self.place.as_str()) {
+            Ok(()) => self.older = None,
+            Err(_) => return Err(Failed),
+        }
+        if is_there { Ok(()) } else { Err(Failed) }
     }
 
     // Removes the file of a blob, where it is there.
@@ -237,7 +215,7 @@ fn make<R: Files>(files: &R, path: &str, with_slash: &str) -> io::Result<R::File
         Err(e) => return Err(e),
     };
     // The folder around one that was there before may not be ours to read.
-    match sync_folder(files, around(path)) {
+    match sync_file(files, around(path)) {
         Err(e) if is_new => return Err(e),
         _ => {}
     }
@@ -250,10 +228,6 @@ fn around(path: &str) -> &str {
         Some(parent) if !parent.as_str().is_empty() => parent.as_str(),
         _ => ".",
     }
-}
-
-fn sync_folder<R: Files>(files: &R, path: &str) -> io::Result<()> {
-    File::open(files, path)?.sync_all()
 }
 
 fn read_whole<F: Read + OpenFile>(alloc: Global, file: &mut F) -> Result<Vec<u8>, Refused> {
@@ -284,16 +258,16 @@ fn write_through<R: Files>(files: &R, path: &str, bytes: &[u8]) -> io::Result<()
     file.sync_all()
 }
 
-// Writes the bytes to a file of their own, and has the system begin to bring them to the disk, which is advice and can't
-// fail.
-fn write_fresh<R: Files>(files: &R, path: &str, bytes: &[u8]) -> io::Result<R::File>
-where
-    R::File: AsRawFd,
-{
+// Writes the bytes to a file of their own. A file that was cut to nothing and then closed is one that Linux's file systems
+// begin to bring to the disk at once, since it may replace another one's content.
+fn send_off<R: Files>(files: &R, path: &str, bytes: &[u8]) -> io::Result<()> {
     let mut file = File::create(files, path)?;
-    file.write_all(bytes)?;
-    let _ = libc::posix_fadvise(file.as_raw_fd(), 0, 0, libc::POSIX_FADV_DONTNEED);
-    Ok(file)
+    file.set_len(0)?;
+    file.write_all(bytes)
+}
+
+fn sync_file<R: Files>(files: &R, path: &str) -> io::Result<()> {
+    File::open(files, path)?.sync_all()
 }
 
 // Adds the blobs' names among file names that each end with a NUL.

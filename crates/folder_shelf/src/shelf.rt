@@ -9,7 +9,6 @@ use crate::streams::count;
 use std::alloc::Global;
 use std::fs::Files;
 use std::marker::Model;
-use std::os::fd::AsRawFd;
 use vault_traits::{Failed, Refused, Shelf};
 use vault_types::{Fault, Kind, Name, Set};
 
@@ -36,10 +35,7 @@ impl<R: Files> Model for FolderShelf<R> {
     ghost view = { λ s. record { faults = s.faults; gets = s.gets } };
 }
 
-impl<R: Files> FolderShelf<R>
-where
-    R::File: AsRawFd,
-{
+impl<R: Files> FolderShelf<R> {
     /// A shelf over the folder at this path, which is made where it is absent. `StoreFault(1)` says that this failed.
     pub fn start(alloc: Global, files: R, path: &str) -> Result<Self, Fault>
     where
@@ -59,10 +55,7 @@ where
     }
 }
 
-impl<R: Files> Shelf for FolderShelf<R>
-where
-    R::File: AsRawFd,
-{
+impl<R: Files> Shelf for FolderShelf<R> {
     ghost use Rattle.folder_shelf.specs.Silent.{silent_shelf, none_told};
 
     ghost told = { silent_shelf };

@@ -127,9 +127,13 @@ impl<R: Files> Folder<R> {
 
     // Waits until all that was written is on the disk, and has its name.
     fn finish(&mut self) -> Result<(), Failed> {
-        self.finish_older()?;
+        let older = self.finish_older();
+        if self.older.is_some() {
+            return older;
+        }
         self.older = self.newer.take();
-        self.finish_older()
+        self.finish_older()?;
+        older
     }
 
     // Waits for the older of two files. Where its bytes can't be brought to the disk, it gets its name as well, and no

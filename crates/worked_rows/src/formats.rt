@@ -117,3 +117,70 @@ fn a_recipe_is_none_of_another_set(rt: HostRuntime) -> Result<(), Fail> {
     assert!(rt; is_as_said(&row, &seen));
     Ok(())
 }
+
+// A shelf with the blobs of another one, but that of one name has these bytes.
+fn with_blob(alloc: Global, shelf: &MemShelf, name: Name, bytes: &[u8]) -> Result<MemShelf, Fail> {
+    let mut blobs = Vec::new(alloc);
+    blobs.push((name, bytes.to_vec(alloc)?))?;
+    for other in shelf.names(alloc)? {
+        if let Some(blob) = shelf.blob(other) {
+            blobs.push((other, blob.to_vec(alloc)?))?;
+        }
+    }
+    Ok(MemShelf::with(alloc, blobs)?)
+}
+
+#[test]
+fn a_floor_that_is_cut_is_told(rt: HostRuntime) -> Result<(), Fail> {
+    let alloc = rt.alloc();
+    let row = Row {
+        words: "backup --chunk fixed --size 4",
+        input: b"abcdabcdab",
+        status: 0,
+        out: b"backup 1: 3 chunks, 10 bytes, 1 new containers, 6 bytes written, 0 sparse\n",
+        report: NOTHING,
+    };
+    let shelf = run_row(alloc, &row, MemShelf::new(alloc))?.shelf;
+    let floor = Name {
+        kind: Kind::Floor,
+        number: 0,
+    };
+    let mut blob = match shelf.blob(floor) {
+        Some(blob) => blob.to_vec(alloc)?,
+        None => Vec::new(alloc),
+    };
+    assert_eq!(rt; blob.len(), 28);
+    let _ = blob.pop();
+    let shelf = with_blob(alloc, &shelf, floor, blob.as_slice())?;
+    let row = Row {
+        words: "restore --version 1",
+        input: NOTHING,
+        status: 7,
+        out: NOTHING,
+        report: b"error 7: store damaged, floor 0\n",
+    };
+    let seen = run_row(alloc, &row, shelf)?;
+    assert!(rt; is_as_said(&row, &seen));
+    Ok(())
+}
+
+#[test]
+fn a_payload_that_no_version_names_stays(rt: HostRuntime) -> Result<(), Fail> {
+    let alloc = rt.alloc();
+    let stray = Name {
+        kind: Kind::Payload,
+        number: 5,
+    };
+    let shelf = with_blob(alloc, &MemShelf::new(alloc), stray, b"x")?;
+    let row = Row {
+        words: "backup --chunk fixed --size 4",
+        input: b"aaaa",
+        status: 0,
+        out: b"backup 1: 1 chunks, 4 bytes, 1 new containers, 4 bytes written, 0 sparse\n",
+        report: NOTHING,
+    };
+    let seen = run_row(alloc, &row, shelf)?;
+    assert!(rt; is_as_said(&row, &seen));
+    assert!(rt; seen.shelf.blob(stray) == Some(b"x".as_slice()));
+    Ok(())
+}

@@ -244,6 +244,34 @@ fn run_failing(alloc: Global, call: u64, keep: bool) -> Result<(u8, Vec<u8>, Mem
 }
 
 #[test]
+fn a_deleted_version_takes_its_container_along(rt: HostRuntime) -> Result<(), Fail> {
+    let alloc = rt.alloc();
+    let files = [("a", b"aaaa".as_slice()), ("b", b"bbbb".as_slice())];
+    let row = batch(
+        TWO,
+        0,
+        b"backup 1: 1 chunks, 4 bytes, 1 new containers, 4 bytes written, 0 sparse\nbackup 2: 1 chunks, 4 bytes, 1 new containers, 4 bytes written, 0 sparse\ndelete 1: floor 2, 1 containers reclaimed\ndelete 1: floor 2, 0 containers reclaimed\n",
+    );
+    let mut places = places_of(alloc, &files)?;
+    let seen = run_over(
+        alloc,
+        &row,
+        &Limits::standard(),
+        MemShelf::new(alloc),
+        &mut places,
+    )?;
+    assert!(rt; is_as_said(&row, &seen));
+    for (number, left) in [(1, None), (2, Some(b"bbbb".as_slice()))] {
+        let name = Name {
+            kind: Kind::Payload,
+            number,
+        };
+        assert!(rt; seen.shelf.blob(name) == left);
+    }
+    Ok(())
+}
+
+#[test]
 fn each_call_of_the_shelf_fails_once(rt: HostRuntime) -> Result<(), Fail> {
     let alloc = rt.alloc();
     for call in 1..20 {

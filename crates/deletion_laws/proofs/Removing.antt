@@ -1,6 +1,6 @@
 -- Strays behind a place that are taken out.
 use Rattle.std.proofs.Common.{◌≡◌, ◌⊎◌, inl, inr, ⊎_elim, ℕ, zero, suc, ◌<◌, ◌≤◌, length, List, [], ◌∷◌, take, drop, Option, Some, None, refl, sym, ◌∙◌, ap, subst, arith}
-use Rattle.std.specs.Prelude.{Contains, slice_index_or, IsSome}
+use Rattle.std.specs.Prelude.{◌≢◌, Contains, slice_index_or, IsSome}
 use Rattle.std.specs.List.{remove}
 use Rattle.vault_types.specs.declared.Name.{Name}
 use Rattle.vault_types.specs.Shelf.{Blobs, with_blob}
@@ -34,6 +34,11 @@ behind_at xs zero i q low below is = (i, below, is)
 behind_at [] (suc s) i q low below is = absurd (omega arith)
 behind_at (x ∷ xs) (suc s) zero q low below is = absurd (omega arith)
 behind_at (x ∷ xs) (suc s) (suc i) q low below is = behind_at xs s i q (omega arith) (omega arith) is
+
+-- what is behind a place is not among those that were
+pub apart_from : (old strays : List Name) (start i : ℕ) (n q : Name) → start ≤ i → i < length strays → n ≡ slice_index_or strays i n → ((p : Name) → Contains (drop start strays) p → Contains (drop start old) p)
+    → (Contains (drop start old) q → ⊥) → q ≢ n
+apart_from old strays start i n q low below at behind none is = none (subst (λ (p : Name). Contains (drop start old) p) (sym is) (behind n (behind_at strays start i n low below (sym at))))
 
 -- a shelf tells, or tells nothing
 

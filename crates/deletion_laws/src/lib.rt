@@ -11,7 +11,7 @@ ghost use Rattle.vault_types.specs.Marks.{Mark, marks_above, freed_ids};
 ghost use Rattle.vault_types.specs.Blobs.{floor_bytes};
 ghost use Rattle.vault_types.specs.State.{State, dataset, floor_of, latest_of, next_of, IsValid};
 ghost use Rattle.vault_types.specs.Delete.{delete, reclaimed_ids};
-ghost use Rattle.vault_types.specs.Shelf.{Blobs, with_blob, floor_name};
+ghost use Rattle.vault_types.specs.Shelf.{Blobs, blob_at, with_blob, floor_name};
 ghost use Rattle.vault_types.specs.Events.{Core, IsCore, IsNear, Held, IsContainerName, put_by, after_delete, after_refused, delete_change, after_release};
 ghost use Rattle.vault_traits.specs.Crash.{LeavesNowIfTold, LeavesOnlyIfTold};
 ghost use Rattle.keeper_parts.specs.Parts.{HeldIfTold, IsIdle, CanClean, with_strays};
@@ -34,6 +34,7 @@ pub fn clean_from<S: Shelf>(shelf: &mut S, strays: &mut Vec<Name>, start: usize)
     // A crash at any moment leaves what it could leave before.
     ensures any_moment { (K : Core) → K.strays ≡ strays.old.items → (IsSome (S.told shelf.old).blobs → AreIdle K (drop start strays.old.items))
         → LeavesNowIfTold (S.told shelf.old).history (IsNear K.state K.other) → LeavesOnlyIfTold (S.told shelf.old).history (S.told shelf.new).history (IsNear K.state K.other) }
+    ensures others { (n : Named) → (Contains (drop start strays.old.items) n → ⊥) → blob_at (S.told shelf.new).blobs n ≡ blob_at (S.told shelf.old).blobs n }
     ensures within { (n : Named) → Contains strays.new.items n → Contains strays.old.items n }
     ensures place { start ≤ length strays.new.items }
     ensures front { take start strays.new.items ≡ take start strays.old.items }

@@ -3,11 +3,11 @@
 //! that the shelf may hold, and what a crash at any moment of it leaves.
 #![tactic(auto)]
 
-ghost use Rattle.std.specs.Prelude.{◌≡◌, ◌⊎◌, ◌≤◌, ◌<◌, ◌+◌, ◌-◌, ◌^◌, OnOk, IfOk, IsSome, IfSome, Option, Some, None, Err, length, Contains, vec_capacity, ℕ, List};
+ghost use Rattle.std.specs.Prelude.{◌≡◌, ◌≢◌, ◌⊎◌, ◌≤◌, ◌<◌, ◌+◌, ◌-◌, ◌^◌, OnOk, IfOk, IsSome, IfSome, Option, Some, None, Err, length, Contains, vec_capacity, ℕ, List};
 ghost use Rattle.vault_types.specs.declared.Name.{Name as Named};
 ghost use Rattle.vault_types.specs.State.{State};
 ghost use Rattle.vault_types.specs.Blobs.{floor_bytes, table_bytes, IsVersion};
-ghost use Rattle.vault_types.specs.Shelf.{payload_name, table_name, recipe_name, floor_name, Stands, HasContainer};
+ghost use Rattle.vault_types.specs.Shelf.{payload_name, table_name, recipe_name, floor_name, blob_at, Stands, HasContainer};
 ghost use Rattle.vault_types.specs.Events.{Core, Change, IsNear};
 ghost use Rattle.vault_traits.specs.Counts.{Rose};
 ghost use Rattle.vault_traits.specs.Crash.{LeavesNowIfTold, LeavesOnlyIfTold};
@@ -60,6 +60,7 @@ pub fn mend<S: Shelf>(
     ensures held { (K : Core) → Mends K set version floor → HeldIfTold (S.told shelf.old).blobs K → HeldIfTold (S.told shelf.new).blobs K }
     ensures tells { IsSome (S.told shelf.old).blobs → IsSome (S.told shelf.new).blobs }
     ensures mended { OnOk result ((K : Core) → Mends K set version floor → HeldIfTold (S.told shelf.old).blobs K → HeldIfTold (S.told shelf.new).blobs (without_other K)) }
+    ensures others { (q : Named) → q ≢ recipe_name set version → q ≢ floor_name set → blob_at (S.told shelf.new).blobs q ≡ blob_at (S.told shelf.old).blobs q }
 
     // A crash at any moment leaves one of the two states; behind an `Ok` only the one, whatever could be left before.
     ensures any_moment { (K : Core) → Mends K set version floor → LeavesNowIfTold (S.told shelf.old).history (IsNear K.state K.other)

@@ -105,3 +105,7 @@ put_near A r before after of is stands = subst (λ (t : Option Blobs). IfSome t 
     at : (b : Option Blobs) → (IsSome b → IsRecipeOf A r) → IfSome b (λ m. Stands m A) → IfSome (blobs_with b (recipe_name r.set r.version) (Some (recipe_bytes r))) (IsNear A None)
     at None of stands = tt
     at (Some m) of stands = inl (stands_with A r (of (tells_some m)) m stands)
+
+-- a settle changes no blob
+pub by_settle : (old mid now : Option Blobs) {with : Option Blobs} → now ≡ mid → (mid ≡ old) ⊎ (mid ≡ with) → (now ≡ old) ⊎ (now ≡ with)
+by_settle old mid now same may = ⊎_elim (λ is. inl (same ∙ is)) (λ is. inr (same ∙ is)) may

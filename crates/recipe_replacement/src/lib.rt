@@ -2,7 +2,7 @@
 //! a crash at any moment leaves the state.
 #![tactic(auto)]
 
-ghost use Rattle.std.specs.Prelude.{◌≡◌, OnOk, IfErr, IfSome, Some, None, IsErrOf};
+ghost use Rattle.std.specs.Prelude.{◌≡◌, ◌⊎◌, OnOk, IfErr, IfSome, Some, None, IsErrOf};
 ghost use Rattle.vault_types.specs.declared.Fault.TheVariants as fault;
 ghost use Rattle.vault_types.specs.State.{State};
 ghost use Rattle.vault_types.specs.Blobs.{recipe_bytes, IsRecipe};
@@ -29,6 +29,7 @@ pub fn replace_recipe<S: Shelf>(
 ) -> Result<(), Fault>
     requires { IsRecipe recipe.now }
     ensures ok { OnOk result ((S.told shelf.new).blobs ≡ blobs_with (S.told shelf.old).blobs (recipe_name recipe.now.set recipe.now.version) (Some (recipe_bytes recipe.now))) }
+    ensures at_most { ((S.told shelf.new).blobs ≡ (S.told shelf.old).blobs) ⊎ ((S.told shelf.new).blobs ≡ blobs_with (S.told shelf.old).blobs (recipe_name recipe.now.set recipe.now.version) (Some (recipe_bytes recipe.now))) }
     ensures held { (K : Core) → K.other ≡ None → IsRecipeOfIfTold (S.told shelf.old).blobs K.state recipe.now
         → HeldIfTold (S.told shelf.old).blobs K → HeldIfTold (S.told shelf.new).blobs K }
 

@@ -1,6 +1,7 @@
 use Rattle.std.proofs.Common.{◌≡◌, ◌≤◌, ◌<◌, ◌+◌, ◌-◌, ◌^◌, length, take, drop, None, vec_len, vec_capacity}
 use Rattle.std.specs.Prelude.{Contains, IsSome}
 use Rattle.vault_types.specs.declared.Name.{Name}
+use Rattle.vault_types.specs.Shelf.{blob_at}
 use Rattle.vault_types.specs.Events.{Core, IsNear}
 use Rattle.vault_traits.specs.Crash.{LeavesNowIfTold, LeavesOnlyIfTold}
 use Rattle.keeper_parts.specs.Parts.{HeldIfTold, with_strays}
@@ -18,6 +19,7 @@ invariant-loop-left g l =
       below : l.left ≤ vec_len l.strays;
       held : (K : Core) → K.strays ≡ l.fn.strays.items → (IsSome (s.told l.fn.shelf).blobs → AreIdle K (drop l.fn.start l.fn.strays.items)) → HeldIfTold ((s.told l.fn.shelf).blobs) K → HeldIfTold ((s.told l.shelf).blobs) (with_strays l.strays.items K);
       any_moment : (K : Core) → K.strays ≡ l.fn.strays.items → (IsSome (s.told l.fn.shelf).blobs → AreIdle K (drop l.fn.start l.fn.strays.items)) → LeavesNowIfTold ((s.told l.fn.shelf).history) (IsNear K.state K.other) → LeavesOnlyIfTold ((s.told l.fn.shelf).history) ((s.told l.shelf).history) (IsNear K.state K.other);
+      others : (n : Name) → (Contains (drop l.fn.start l.fn.strays.items) n → ⊥) → blob_at ((s.told l.shelf).blobs) n ≡ blob_at ((s.told l.fn.shelf).blobs) n;
       within : (n : Name) → Contains l.strays.items n → Contains l.fn.strays.items n;
       behind : (n : Name) → Contains (drop l.fn.start l.strays.items) n → Contains (drop l.fn.start l.fn.strays.items) n;
       front : take l.fn.start l.strays.items ≡ take l.fn.start l.fn.strays.items;

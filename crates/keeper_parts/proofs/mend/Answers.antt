@@ -1,6 +1,7 @@
-use Rattle.std.proofs.Common.{◌≡◌, ◌∙◌, refl, sym, Some, None}
-use Rattle.vault_types.specs.Shelf.{Blobs}
+use Rattle.std.proofs.Common.{◌≡◌, ◌∙◌, refl, sym, ap, Option, Some, None}
+use Rattle.vault_types.specs.Shelf.{Blobs, blob_at}
 use Rattle.vault_types.specs.Events.{IsNear, Held}
+use Rattle.vault_traits.proofs.Maps.{other_blob}
 use Rattle.vault_traits.proofs.Moments.{then, ends, may_write, stays}
 use Rattle.keeper_parts.specs.Parts.{without_other}
 use Rattle.keeper_parts.proofs.Changing.{settle_moment, settle_leaves, told_same, told_may, told_more, told_mended, recipe_near, floor_near, recipe_held, floor_held, done_of, failed_of}
@@ -72,3 +73,17 @@ returns-then-is_err-2-clause-tells g c tells = tells_same _ _ c.settle.ensures.b
 
 pub returns-clause-tells : goal.returns-clause-tells
 returns-clause-tells g c tells = tells_same _ _ c.settle.ensures.blobs (tells_may c.put_floor.ensures.at_most (tells_may c.remove_recipe.ensures.at_most tells))
+
+pub returns-then-is_err-clause-others : goal.returns-then-is_err-clause-others
+returns-then-is_err-clause-others g c q recipe floor = other_blob c.remove_recipe.ensures.at_most q recipe
+
+pub returns-in_err-put_floor-clause-others : goal.returns-in_err-put_floor-clause-others
+returns-in_err-put_floor-clause-others g c q recipe floor = other_blob c.put_floor.ensures.at_most q floor ∙ other_blob c.remove_recipe.ensures.at_most q recipe
+
+pub returns-then-is_err-2-clause-others : goal.returns-then-is_err-2-clause-others
+returns-then-is_err-2-clause-others g c q recipe floor =
+    ap (λ (t : Option Blobs). blob_at t q) c.settle.ensures.blobs ∙ other_blob c.put_floor.ensures.at_most q floor ∙ other_blob c.remove_recipe.ensures.at_most q recipe
+
+pub returns-clause-others : goal.returns-clause-others
+returns-clause-others g c q recipe floor =
+    ap (λ (t : Option Blobs). blob_at t q) c.settle.ensures.blobs ∙ other_blob c.put_floor.ensures.at_most q floor ∙ other_blob c.remove_recipe.ensures.at_most q recipe

@@ -1,14 +1,16 @@
 -- What the memory of the sets says of a core that is mended.
 use Rattle.std.proofs.Common.{◌≡◌, ◌<◌, ◌≤◌, ◌+◌, ◌-◌, ℕ, zero, suc, length, map, List, [], ◌∷◌, Option, Some, None, refl, sym, ◌∙◌, ap, subst, arith, get_or}
-use Rattle.std.specs.Prelude.{IfSome, slice_index_or}
+use Rattle.std.specs.Prelude.{◌≢◌, IfSome, slice_index_or}
 use Rattle.std.specs.List.{AllByRecursion}
 use Rattle.std.proofs.lemmas.List.{get_or_default}
 use Rattle.std.proofs.Math.ListN.{get_or-map}
 use Rattle.vault_types.specs.declared.Pending.{Pending}
 use Rattle.vault_types.specs.declared.Pending.TheVariants.{Not, Opened, FailedFor}
-use Rattle.vault_types.specs.State.{State, Dataset, KeptVersion, dataset, empty_dataset, floor_of, IsDataset, IsValid}
+use Rattle.vault_types.specs.State.{State, Dataset, KeptVersion, dataset, empty_dataset, floor_of, latest_of, IsDataset, IsValid}
+use Rattle.vault_types.specs.Shelf.{recipe_name}
 use Rattle.vault_types.specs.Events.{Core, Change, IsChange}
 use Rattle.keeper_parts.specs.Parts.{Mends, IsOf}
+use Rattle.keeper_parts.proofs.Changing.{recipe_same, latest_low}
 use Rattle.keeper_catalog.specs.declared.SetInfo.{SetInfo}
 use Rattle.keeper_catalog.specs.Catalog.{set_info}
 use Rattle.keeper_jobs.specs.Jobs.{mended_by, Sees}
@@ -86,3 +88,12 @@ floors_low (d ∷ ds) (suc s) h = floors_low ds s h.1
 
 pub floor_low : (S : State) (s : ℕ) → IsValid S → floor_of S s ≤ 4294967294
 floor_low S s valid = floors_low S.datasets s valid.datasets
+
+-- no kept recipe is the one that a mending takes out
+pub not_mended : (K : Core) (m x w : ℕ) → Mends K m x w → (s v : ℕ) → v ≤ latest_of K.state s → recipe_name s v ≢ recipe_name m x
+not_mended K m x w mends s v low is =
+    let a = latest_low K.state s mends.valid in
+    let b = latest_low K.state m mends.valid in
+    let e = recipe_same s v m x (omega (arith, a, low)) (omega (arith, b, mends.version)) is in
+    let there : v ≤ latest_of K.state m = subst (λ (t : ℕ). v ≤ latest_of K.state t) e.0 low in
+    absurd (omega (arith, there, e.1, mends.version))

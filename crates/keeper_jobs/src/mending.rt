@@ -1,5 +1,7 @@
 //! A mending, where one is due.
-ghost use Rattle.std.specs.Prelude.{◌≡◌, ◌≢◌, ◌<◌, OnOk, OnErr, IsSome, None, length};
+ghost use Rattle.std.specs.Prelude.{◌≡◌, ◌≢◌, ◌<◌, ◌≤◌, ℕ, OnOk, OnErr, IsSome, None, length};
+ghost use Rattle.vault_types.specs.State.{latest_of};
+ghost use Rattle.vault_types.specs.Shelf.{blob_at, recipe_name};
 ghost use Rattle.vault_types.specs.Events.{Core, IsNear};
 ghost use Rattle.vault_traits.specs.Crash.{LeavesNowIfTold, LeavesOnlyIfTold};
 ghost use Rattle.blob_parts.specs.Causes.{HasStoreFault};
@@ -35,6 +37,8 @@ pub fn mend_for<S: Shelf>(
     ensures held { (K : Core) → Sees sets.now pending.old K → HeldIfTold (S.told shelf.old).blobs K → HeldIfTold (S.told shelf.new).blobs K }
     ensures mended { OnOk result ((K : Core) → Sees sets.now pending.old K → HeldIfTold (S.told shelf.old).blobs K → HeldIfTold (S.told shelf.new).blobs (without_other K)) }
     ensures tells { IsSome (S.told shelf.old).blobs → IsSome (S.told shelf.new).blobs }
+    ensures recipes { (K : Core) → Sees sets.now pending.old K → (s v : ℕ) → v ≤ latest_of K.state s
+        → blob_at (S.told shelf.new).blobs (recipe_name s v) ≡ blob_at (S.told shelf.old).blobs (recipe_name s v) }
 
     // A crash at any moment leaves what it could leave before; behind a mending that was due and succeeded only the state.
     ensures any_moment { (K : Core) → Sees sets.now pending.old K → LeavesNowIfTold (S.told shelf.old).history (IsNear K.state K.other)

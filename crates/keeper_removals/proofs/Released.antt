@@ -76,11 +76,14 @@ module _ (m : Memo) (pins left_pins : List Listed) (K : Core) (number : ℕ) (r 
   pub held_released : (b : Option Blobs) → HeldIfTold b K → HeldIfTold b (after_release number mid K)
   held_released b held = told_released K number r.core mid strays_released b held
 
-  pub idle_released : (start : ℕ) → start ≡ length m.strays → AreIdle (after_release number mid K) (drop start mid)
-  idle_released start is = λ q there. release_idle K number r.core q (added_is q (subst (λ (l : List Name). Contains l q) behind there))
+  pub gone_released : (start : ℕ) → start ≡ length m.strays → (q : Name) → Contains (drop start mid) q → IsReleased K number q
+  gone_released start is q there = added_is q (subst (λ (l : List Name). Contains l q) behind there)
     where
       behind : drop start mid ≡ goes.added
       behind = ap (λ (i : ℕ). drop i mid) is ∙ ap (drop (length m.strays)) goes.strays_are ∙ drop-append_seam m.strays goes.added
+
+  pub idle_released : (start : ℕ) → start ≡ length m.strays → AreIdle (after_release number mid K) (drop start mid)
+  idle_released start is = λ q there. release_idle K number r.core q (gone_released start is q there)
 
   pub within_released : (q : Name) → Contains mid q → Contains m.strays q ⊎ IsReleased K number q
   within_released q there = ⊎_elim (λ old. inl (subst (λ (l : List Name). Contains l q) (sym r.memo.strays) old)) (λ new. inr new) (strays_released.only q there)

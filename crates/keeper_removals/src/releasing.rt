@@ -3,6 +3,7 @@ ghost use Rattle.std.specs.Prelude.{◌≡◌, ◌≤◌, ◌<◌, ◌+◌, ◌-
 ghost use Rattle.vault_types.specs.declared.Name.{Name as Named};
 ghost use Rattle.vault_types.specs.Lists.{has};
 ghost use Rattle.vault_types.specs.Marks.{Mark, marked_ids};
+ghost use Rattle.vault_types.specs.Shelf.{blob_at};
 ghost use Rattle.vault_types.specs.Events.{Core, IsNear, after_release, pins_without};
 ghost use Rattle.vault_traits.specs.Crash.{LeavesNowIfTold, LeavesOnlyIfTold};
 ghost use Rattle.set_markers.specs.SetMarkers.{AreMarkersOfSets};
@@ -73,6 +74,7 @@ pub fn release_pin<S: Shelf>(shelf: &mut S, catalog: &mut Catalog, pins: &mut Pi
     ensures pins { (K : Core) → Releasing (memo_of catalog.old) pins.old K → AreListsOf pins.new (pins_without no K.pins) }
     ensures left { pins.new ≡ without no pins.old }
     ensures held { (K : Core) → Releasing (memo_of catalog.old) pins.old K → HeldIfTold (S.told shelf.old).blobs K → HeldIfTold (S.told shelf.new).blobs (after_release no catalog.new.strays.items K) }
+    ensures others { (K : Core) → Releasing (memo_of catalog.old) pins.old K → (n : Named) → (IsReleased K no n → ⊥) → blob_at (S.told shelf.new).blobs n ≡ blob_at (S.told shelf.old).blobs n }
 
     // A crash at any moment leaves what it could leave before.
     ensures any_moment { (K : Core) → Releasing (memo_of catalog.old) pins.old K → LeavesNowIfTold (S.told shelf.old).history (IsNear K.state K.other)

@@ -1,8 +1,8 @@
 use Rattle.std.proofs.Common.{arith, sym, ◌∙◌, ◌≡◌, Some}
 use Rattle.keeper_jobs.specs.Jobs.{mended_by}
-use Rattle.keeper_parts.proofs.Changing.{latest_low}
+use Rattle.keeper_parts.proofs.Changing.{latest_low, recipe_no_floor}
 use Rattle.keeper_parts.proofs.Growing.{floor_pos}
-use Rattle.keeper_jobs.proofs.Seeing.{mends, floor_low}
+use Rattle.keeper_jobs.proofs.Seeing.{mends, floor_low, not_mended}
 use Rattle.keeper_jobs.proofs.mending.mend_for.Goals as goal
 
 pub overflow_add-info : goal.overflow_add-info
@@ -38,3 +38,11 @@ mend-requires g c =
     let is : mended_by c.args.pending.now c.args.set ≡ Some c.in-Some.mended = sym c.mended_set.ensures ∙ c.in-Some.is in
     let m = mends _ _ seen.0 seen.1 _ _ _ c.requires.in_range is c.index-sets-mended.is in
     (omega (arith, m.floor, floor_pos seen.0.state c.in-Some.mended m.valid), omega (arith, m.floor, floor_low seen.0.state c.in-Some.mended m.valid))
+
+pub returns-in_err-mend-clause-recipes : goal.returns-in_err-mend-clause-recipes
+returns-in_err-mend-clause-recipes g c K sees s v low =
+    c.mend.ensures.others _ (not_mended K _ _ _ (mends _ _ K sees _ _ _ c.requires.in_range (sym c.mended_set.ensures ∙ c.in-Some.is) c.index-sets-mended.is) s v low) (recipe_no_floor s v _)
+
+pub returns-clause-recipes : goal.returns-clause-recipes
+returns-clause-recipes g c K sees s v low =
+    c.mend.ensures.others _ (not_mended K _ _ _ (mends _ _ K sees _ _ _ c.requires.in_range (sym c.mended_set.ensures ∙ c.in-Some.is) c.index-sets-mended.is) s v low) (recipe_no_floor s v _)

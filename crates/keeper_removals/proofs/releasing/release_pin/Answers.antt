@@ -1,7 +1,7 @@
 use Rattle.std.proofs.Common.{◌≤◌, ◌∙◌, length, refl, arith}
 use Rattle.vault_types.specs.Events.{after_release}
 use Rattle.keeper_removals.proofs.Gone.{leaves_longer}
-use Rattle.keeper_removals.proofs.Released.{memo_released, held_released, idle_released, within_released}
+use Rattle.keeper_removals.proofs.Released.{memo_released, held_released, gone_released, idle_released, within_released}
 use Rattle.keeper_removals.proofs.releasing.release_pin.Goals as goal
 
 pub clean_from-requires : goal.clean_from-requires
@@ -31,3 +31,8 @@ returns-clause-any_moment g c K r here =
 pub returns-clause-within : goal.returns-clause-within
 returns-clause-within g c K r n there =
     within_released _ _ _ K c.args.no r _ (c.deref.ensures.value ∙ c.release-ids.ensures.ids) (c.release-ids.ensures.pins K.pins r.pins_are) _ _ c.let_unneeded_go.ensures.left n (c.clean_from.ensures.within n there)
+
+pub returns-clause-others : goal.returns-clause-others
+returns-clause-others g c K r n none =
+    c.clean_from.ensures.others n
+    (λ there. none (gone_released _ _ _ K c.args.no r _ (c.deref.ensures.value ∙ c.release-ids.ensures.ids) (c.release-ids.ensures.pins K.pins r.pins_are) _ _ c.let_unneeded_go.ensures.left c.len-start.result (omega (arith, c.len-start.ensures, c.args.catalog.now.strays.ok)) n there))

@@ -43,6 +43,7 @@ means_earlier limits lines answers mid new n later sources S Known Told told m =
   shelf = record { blobs = m.shelf.blobs; valid = m.shelf.valid; loads = m.shelf.loads };
   strays = record { later = omega (arith, later, m.strays.later); others = m.strays.others; few = λ below. omega (arith, m.strays.few below, later, m.strays.later); each = λ q stray. ⊎_elim (λ stays. inl (stay_more limits sources S lines answers Known Told told q stays)) (λ other. inr other) (m.strays.each q stray) };
   crash = λ images. let c = m.crash images in record { any_moment = c.any_moment; at_the_end = c.at_the_end };
+  bytes = m.bytes;
 }
 
 runs_earlier : (limits : Limits) (lines : List Line) (answers : List Answer) (mid new : ShelfTold) (before now : PlacesTold) (n : ℕ) → n ≤ mid.faults → (From To : State → Type 0) (Known Told : State → Name → Type 0) → ((S : State) → To S → From S) → ((S : State) → To S → (q : Name) → Known S q → Told S q)

@@ -16,6 +16,7 @@ use Rattle.script_laws.specs.Leaves.{MayBeDone, StandsOrNearly, StandsForOne, St
 use Rattle.vault_types.specs.Bytes.{IsSound}
 use Rattle.script_laws.specs.Complete.{IsWell, IsComplete}
 use Rattle.script_laws.proofs.Staying.{AreWell, well_alone, well_behind}
+use Rattle.script_laws.proofs.Bytes.{Goes, keep_bytes}
 use Rattle.script_laws.specs.Outputs.{AreApartLines, OnFiles, KeepsOthers, AreOutputs}
 use Rattle.script_laws.specs.Script.{MeansScript, RunsLines}
 use Rattle.script_laws.specs.Strays.{StraysOf}
@@ -79,6 +80,15 @@ module _ {K : Type 0} (shelf : K → ShelfTold) (keeps : K → State → Option 
   others old new (line ∷ lines) (answer ∷ answers) chain = files_then old.places.files chain.0.places.files new.places.files (KeepsOthers (line ∷ [])) (KeepsOthers lines) (KeepsOthers (line ∷ lines))
       (λ x y z told first rest. others_then line lines x y z first rest) chain.1.others (others chain.0 new lines answers chain.2)
 
+  goes : (sources : Sources) (S : State) (other : Option Change) (old new : Moment K) (lines : List Line) (answers : List Answer) → Follows shelf keeps known limits sources S other old lines answers new → IsWell limits sources S lines
+      → Goes limits sources S lines answers
+  goes sources S other old new [] [] chain w = w.sound.valid
+  goes sources S other old new [] (answer ∷ answers) chain w = absurd chain
+  goes sources S other old new (line ∷ lines) [] chain w = absurd chain
+  goes sources S other old new (line ∷ lines) (answer ∷ answers) chain w =
+      let valid = (keeps_is chain.0.keeper (after sources S line answer) chain.1 chain.2).valid in
+      (w, chain.3.means.done, valid, goes sources (after sources S line answer) chain.1 chain.0 new lines answers chain.6 (well_behind limits sources S lines line answer valid chain.3.means.done w))
+
   pub means : (sources : Sources) (S : State) (old new : Moment K) (lines : List Line) (answers : List Answer) → keeps old.keeper S None → Follows shelf keeps known limits sources S None old lines answers new
       → MeansScript limits sources S lines answers (known old.keeper) (shelf old.keeper) (shelf new.keeper)
   means sources S old new lines answers keep chain =
@@ -100,6 +110,7 @@ module _ {K : Type 0} (shelf : K → ShelfTold) (keeps : K → State → Option 
               at_the_end = more_now (StandsOrOther (state_after sources S lines answers) (LeftBy sources S None lines answers)) (StandsOrOther (state_after sources S lines answers) (MayBeDone sources S lines answers))
                   (λ m e. ⊎_elim (λ stands. inl stands) (λ left. inr (left.0, left_alone sources S lines answers left.0 left.1, left.2)) e) _ both.1;
             };
+        bytes = λ w. keep_bytes limits sources S lines answers (goes sources S None old new lines answers chain w);
       }
 
   all_well : (sources : Sources) (S : State) (other : Option Change) (old new : Moment K) (lines : List Line) (answers : List Answer) → Follows shelf keeps known limits sources S other old lines answers new → IsWell limits sources S lines

@@ -2,6 +2,7 @@ pub mod Rising
 pub mod Chained
 pub mod Names
 pub mod Staying
+mod Bytes
 pub mod Following
 pub mod Near
 pub mod Counting

@@ -31,19 +31,19 @@ AreWell limits sources S (line ∷ lines) (answer ∷ answers) =
 
 -- ---- sets out of range
 
-in_range : (s n : ℕ) → (s < n) ⊎ (n ≤ s)
+pub in_range : (s n : ℕ) → (s < n) ⊎ (n ≤ s)
 in_range s n = by_test (nat_lt s n) refl
   where
     by_test : (b : Bool) → nat_lt s n ≡ b → (s < n) ⊎ (n ≤ s)
     by_test true is = let e : s < n = grind (arith, nat_tests) in inl e
     by_test false is = let e : n ≤ s = grind (arith, nat_tests) in inr e
 
-set_past : (ds : List Dataset) (s : ℕ) (d : Dataset) → length ds ≤ s → slice_set ds s d ≡ ds
+pub set_past : (ds : List Dataset) (s : ℕ) (d : Dataset) → length ds ≤ s → slice_set ds s d ≡ ds
 set_past [] s d past = refl
 set_past (e ∷ ds) zero d past = absurd (omega (arith, past))
 set_past (e ∷ ds) (suc s) d past = ap (λ (es : List Dataset). e ∷ es) (set_past ds s d (omega (arith, past)))
 
-get_past : (ds : List Dataset) (s : ℕ) → length ds ≤ s → slice_index_or ds s empty_dataset ≡ empty_dataset
+pub get_past : (ds : List Dataset) (s : ℕ) → length ds ≤ s → slice_index_or ds s empty_dataset ≡ empty_dataset
 get_past [] s past = refl
 get_past (e ∷ ds) zero past = absurd (omega (arith, past))
 get_past (e ∷ ds) (suc s) past = get_past ds s (omega (arith, past))
@@ -60,7 +60,7 @@ same_state S ds more valid same valid_too =
     let containers : S.containers ++ more ≡ S.containers = ap (λ (cs : List Container). S.containers ++ cs) none ∙ append-nil S.containers in
     λ i. record { datasets = same i; containers = containers i }
 
-below_set : (S : State) (s n : ℕ) → n < latest_of S s → s < length S.datasets
+pub below_set : (S : State) (s n : ℕ) → n < latest_of S s → s < length S.datasets
 below_set S s n low = ⊎_elim
     (λ below. below)
     (λ past. absurd (let none : latest_of S s ≡ 0 = ap latest_in (get_past S.datasets s past) in omega (arith, low, none)))
@@ -105,7 +105,7 @@ module _ (limits : Limits) (sources : Sources) (S : State) (lines : List Line) w
     few = w.few.1;
   }
 
-  clash_of_source : (s : ℕ) (name : List ℕ) (config : JobConfig) → IsWell limits sources S (Backup s name config ∷ lines) → NoClash (all_chunks S ++ cuts (sources name) config.cutting)
+  pub clash_of_source : (s : ℕ) (name : List ℕ) (config : JobConfig) → IsWell limits sources S (Backup s name config ∷ lines) → NoClash (all_chunks S ++ cuts (sources name) config.cutting)
   clash_of_source s name config w = fewer_clash (all_chunks S ++ (cuts (sources name) config.cutting ++ flat_map (chunks_of_line sources) lines)) (all_chunks S ++ cuts (sources name) config.cutting) w.no_clash
       (λ z there. more_between (all_chunks S) (cuts (sources name) config.cutting) (flat_map (chunks_of_line sources) lines) (all_chunks S ++ cuts (sources name) config.cutting) (λ z h. h) z
       (Contains-append_left (all_chunks S ++ cuts (sources name) config.cutting) (flat_map (chunks_of_line sources) lines) z there))

@@ -4,6 +4,7 @@ pub mod Leaves
 pub mod Outputs
 pub mod Strays
 pub mod Complete
+pub mod Keeping
 pub mod Script
 pub mod View
 pub mod Steps

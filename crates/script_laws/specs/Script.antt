@@ -15,14 +15,17 @@ use Rattle.script_laws.specs.Leaves.{LeavesShelf, BearsCrashes}
 use Rattle.script_laws.specs.Outputs.{AreOutputs, KeepsOthers, OnFiles, AreFedBy}
 use Rattle.script_laws.specs.Strays.{StraysAreKnown, StraysOf}
 use Rattle.script_laws.specs.Complete.{IsWell, IsComplete}
+use Rattle.script_laws.specs.Keeping.{KeepBytes}
 
 -- what lines mean in a state, where these names are known as strays: the table of answers, the blobs, the loads and the
--- strays; and what a crash leaves, where one at the beginning leaves only what stands for the state
+-- strays; what a crash leaves, where one at the beginning leaves only what stands for the state; and where all is well, that
+-- each version has its bytes
 pub record MeansScript (limits : Limits) (sources : Sources) (S : State) (lines : List Line) (answers : List Answer) (Known : Name → Type 0) (old new : ShelfTold) : Type 0 where
   pub table : MeanLines limits sources S lines answers
   pub shelf : LeavesShelf sources S lines answers old new
   pub strays : StraysAreKnown limits sources S lines answers Known (StraysOf new (state_after sources S lines answers)) old new
   pub crash : LeavesNowIfTold old.history (λ m. Stands m S) → BearsCrashes sources S lines answers old new
+  pub bytes : IsWell limits sources S lines → KeepBytes sources S (state_after sources S lines answers) lines answers
 
 -- the lines ran: one answer for each, each refusal with its cause; and in each state that they may start from, with the
 -- strays that are known then, where the sources are told, the answers, the shelf and the outputs are those that the lines mean, and complete where all is well

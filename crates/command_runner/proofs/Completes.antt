@@ -1,5 +1,5 @@
 -- A run over a sound shelf where nothing failed has no fault.
-use Rattle.std.proofs.Common.{◌≡◌, ◌⊎◌, inl, inr, ⊎_elim, ◌≤◌, ◌<◌, ◌-◌, ◌^◌, ℕ, false, true, List, [], ◌∷◌, length, Option, Some, None, refl, sym, ap, subst, arith, ◌∙◌}
+use Rattle.std.proofs.Common.{◌≡◌, ◌⊎◌, inl, inr, ⊎_elim, ◌≤◌, ◌<◌, ◌-◌, ◌^◌, ℕ, false, true, List, [], ◌∷◌, ◌++◌, length, Option, Some, None, refl, sym, ap, subst, arith, ◌∙◌}
 use Rattle.std.specs.Prelude.{IsSome, IsSomeAnd, IfSome, Result, Ok, Err}
 use Rattle.vault_types.specs.declared.Limits.{Limits}
 use Rattle.vault_types.specs.declared.Command.{Command}
@@ -12,14 +12,16 @@ use Rattle.vault_types.specs.declared.Line.{Line}
 use Rattle.vault_types.specs.declared.Answer.{Answer}
 use Rattle.vault_types.specs.Words.{command_of, script_of}
 use Rattle.vault_types.specs.Bytes.{IsSound}
+use Rattle.vault_types.specs.Generator.{fill_lines}
 use Rattle.vault_types.specs.Shelf.{Blobs, Stands}
 use Rattle.vault_types.specs.State.{State}
 use Rattle.vault_traits.specs.Counts.{Rose, RiseFrom}
-use Rattle.vault_traits.specs.Told.{SinkTold, SourceTold}
+use Rattle.vault_traits.specs.Told.{Files, SinkTold, SourceTold}
 use Rattle.keeper_open.specs.Damage.{IsDamageOf}
 use Rattle.keeper_open.proofs.Lawful.{undamaged}
 use Rattle.script_laws.specs.Leaves.{Begins}
 use Rattle.run_laws.specs.World.{World, IsPrinted, report_text}
+use Rattle.run_laws.specs.Filling.{outputs_text}
 use Rattle.run_laws.specs.Early.{CanOpen, EndsEarly, IsBatch, IsEarly, IsScript, IsScriptFault}
 use Rattle.run_laws.specs.Run.{IsRun, NoneRose, Runs}
 use Rattle.command_runner.specs.Unbuilt.{Unbuilt}
@@ -125,8 +127,12 @@ module _ (words : List (List ℕ)) (limits : Limits) (before now : World) (answe
   ran (command.Delete s n) f built r = printed (report_text answers) before.out now.out f none.out.0 none.out.1 r.printed
   ran (command.Show s v) f built r = printed (report_text answers) before.report now.report f none.report.0 none.report.1 r.printed
   ran (command.Batch q l w) f built r = printed (report_text answers) before.out now.out f none.out.0 none.out.1 r.printed
-  ran (command.Fill a b d e g) f built r = absurd built
-  ran command.Migrate f built r = absurd built
+  ran (command.Fill a b d e g) f built r = filled r.left.files f r.printed
+    where
+      filled : (o : Option Files) (h : Option Fault) → IsSomeAnd o (λ files. IsPrinted (report_text answers ++ outputs_text files (fill_lines b) answers) before.out now.out h) → h ≡ None
+      filled None h p = absurd p
+      filled (Some files) h p = printed (report_text answers ++ outputs_text files (fill_lines b) answers) before.out now.out h none.out.0 none.out.1 p
+  ran command.Migrate f built r = printed (report_text answers) before.out now.out f none.out.0 none.out.1 r.printed
   ran (command.Scrub a) f built r = absurd built
 
 pub completes : (words : List (List ℕ)) (limits : Limits) (before now : World) (answers : List Answer) (f : Option Fault) (status : ℕ) → IsRun Unbuilt words limits before now answers f status → IsCompleteRun words limits before now answers f

@@ -2,3 +2,4 @@ pub mod Runs
 pub mod Openings
 pub mod Shows
 pub mod Completes
+pub mod Fills

@@ -22,6 +22,8 @@ IsBuilt (command.Restore set version cache None) = Unit {0}
 IsBuilt (command.Delete set through) = Unit {0}
 IsBuilt (command.Show set version) = Unit {0}
 IsBuilt (command.Batch queue lanes workers) = Unit {0}
+IsBuilt (command.Fill seed versions queue lanes workers) = Unit {0}
+IsBuilt command.Migrate = Unit {0}
 IsBuilt other = ⊥
 
 -- over a sound shelf, with an input that is told, where no count of faults rose and the words and the script are in the

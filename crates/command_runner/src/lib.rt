@@ -3,7 +3,10 @@
 #![tactic(auto)]
 
 mod ending;
+mod filling;
+mod migrating;
 mod one_line;
+mod outputs;
 mod run;
 mod scripts;
 mod showing;

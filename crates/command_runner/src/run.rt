@@ -7,6 +7,8 @@ ghost use Rattle.command_runner.specs.Going.{BatchGoes};
 ghost use Rattle.command_runner.specs.Completes.{IsCompleteRun};
 
 use crate::ending::{Ended, ended_early};
+use crate::filling::run_fill;
+use crate::migrating::run_migrate;
 use crate::one_line::{run_backup, run_delete, run_restore};
 use crate::scripts::run_lines;
 use crate::showing::run_show;
@@ -79,8 +81,12 @@ fn run_command<S: Shelf, K: ShelfStore<S>, P: Places, I: Source, O: Sink, R: Sin
             out,
             report,
         ),
-        Ok(Command::Fill { .. }) => ended_early(alloc, Fault::Usage, shelf, input, out, report),
-        Ok(Command::Migrate) => ended_early(alloc, Fault::Usage, shelf, input, out, report),
+        Ok(Command::Fill { seed, versions, .. }) => run_fill::<S, K, P, I, O, R>(
+            alloc, seed, versions, limits, shelf, places, input, out, report,
+        ),
+        Ok(Command::Migrate) => run_migrate::<S, K, P, I, O, R>(
+            alloc, shelf, places, input, out, report,
+        ),
         Ok(Command::Scrub { .. }) => ended_early(alloc, Fault::Usage, shelf, input, out, report),
     }
 }

@@ -5,12 +5,13 @@ ghost use Rattle.vault_types.specs.State.{State};
 ghost use Rattle.script_laws.specs.Leaves.{Begins};
 ghost use Rattle.script_laws.specs.Strays.{StraysOf};
 ghost use Rattle.run_laws.specs.Early.{IsSameBut, IsStartFault};
+ghost use Rattle.run_laws.specs.Migrating.{MigratesStore};
 ghost use Rattle.command_runner.specs.Showing.{ReadsRecipe};
 
 use script_runner::Store;
 use std::alloc::Global;
 use vault_traits::Shelf;
-use vault_types::{Fault, Recipe, Set, Version};
+use vault_types::{Answer, Fault, Recipe, Set, Version};
 
 /// A store that opens on a shelf, and gives it back.
 pub trait ShelfStore<S: Shelf>: Store {
@@ -26,6 +27,10 @@ pub trait ShelfStore<S: Shelf>: Store {
     fn recipe(&mut self, alloc: Global, set: Set, version: Version) -> Result<Recipe, Fault>
         ensures reads { ReadsRecipe (Self.keeps self.old) (Self.shelf self.old) (Self.shelf self.new) set version result }
         ensures few { IfOk result (λ r. length r.rows < 2 ^ 32) };
+
+    /// Puts each recipe of the first format again in the second. `StoreFault`, `Damaged`, `Memory`.
+    fn migrate(&mut self, alloc: Global) -> Result<Answer, Fault>
+        ensures { MigratesStore (Self.keeps self.old) (Self.keeps self.new) (Self.strays self.old) (Self.strays self.new) (Self.shelf self.old) (Self.shelf self.new) result };
 
     /// The shelf. It takes no memory.
     fn close(self) -> S

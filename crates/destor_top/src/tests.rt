@@ -198,8 +198,6 @@ fn other_words_are_refused_before_the_shelf_is_touched(rt: HostRuntime) -> Resul
         // These are commands, but the program does not have them yet.
         "backup --chunk fixed --size 4 --sample 1 --prefetch 1",
         "restore --version 1 --area 65536",
-        "fill --seed 7 --versions 2",
-        "migrate",
         "scrub",
     ] {
         let shelf = FaultShelf::new(MemShelf::new(alloc), [1].to_vec(alloc)?, false);

@@ -80,6 +80,6 @@ says_whole v K k s n r bytes keeps below kept tells there spells = at v.told.blo
     at : (b : Option Blobs) → IsSome b → Has b (recipe_name s n) (Some bytes) → HeldIfTold b K → IsWholeOf b s n k r.whole
     at None some has held = absurd (let clash : false ≡ true = some in cc)
     at (Some m) some has held = ⊎_elim
-        (λ same. inl (ap (λ (q : Recipe). q.whole) same))
+        (λ same. inl (ap (λ (q : Recipe). q.whole) same, has ∙ ap (λ (l : List ℕ). Some l) (spells.spelled ∙ ap recipe_bytes same)))
         (λ same. inr (ap (λ (q : Recipe). q.whole) same.0, has ∙ ap (λ (l : List ℕ). Some l) (spells.spelled ∙ ap recipe_bytes same.0)))
         (held_says K keeps.core s n k (omega (arith, below, keeps.core.state.sets)) kept m bytes r held has spells)

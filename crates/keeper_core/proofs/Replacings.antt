@@ -1,6 +1,6 @@
 -- What a keeper keeps over a recipe that is put again.
 use Rattle.std.proofs.Common.{◌≡◌, ◌⊎◌, inl, inr, ⊎_elim, ℕ, zero, suc, ◌<◌, ◌≤◌, ◌-◌, ◌&&◌, ◌==◌, true, false, cond, length, List, [], ◌∷◌, Option, Some, None, refl, sym, ◌∙◌, ap, subst, arith}
-use Rattle.std.specs.Prelude.{Result, Ok, Err, OnErr, IsSome, IfSome, Contains, nat_le, nat_lt, slice_get, if◌then◌else◌}
+use Rattle.std.specs.Prelude.{◌≢◌, Result, Ok, Err, OnErr, IsSome, IfSome, Contains, nat_le, nat_lt, slice_get, if◌then◌else◌}
 use Rattle.std.proofs.lemmas.Bool.Decides.{nat_tests}
 use Rattle.vault_types.specs.declared.Fault.{Fault}
 use Rattle.vault_types.specs.declared.Fault.TheVariants as fault
@@ -16,17 +16,18 @@ use Rattle.vault_types.specs.declared.Why.TheVariants as why
 use Rattle.vault_types.specs.Names.{fp, IsFp}
 use Rattle.vault_types.specs.State.{State, KeptVersion, dataset, floor_of, latest_of, version_of, is_kept, recipe_of, length_of, IsValid}
 use Rattle.vault_types.specs.Blobs.{IsRecipe, SpellsRecipe, recipe_bytes, recipe_bytes_2}
-use Rattle.vault_types.specs.Shelf.{Blobs, recipe_name, floor_name}
+use Rattle.vault_types.specs.Shelf.{Blobs, recipe_name, floor_name, blob_at}
 use Rattle.vault_types.specs.Events.{Core, Change, IsCore, IsNear, IsChange, Held, pinned_containers, after_mend, after_refused}
 use Rattle.vault_traits.specs.Told.{ShelfTold}
 use Rattle.vault_traits.specs.Shelf.{blobs_with}
-use Rattle.vault_traits.proofs.Maps.{get_is}
+use Rattle.vault_traits.proofs.Maps.{get_is, other_blob}
 use Rattle.blob_parts.specs.Causes.{Has}
 use Rattle.recipe_store.specs.Damages.{IsRecipeDamage}
 use Rattle.keeper_parts.specs.Parts.{HeldIfTold, without_other}
 use Rattle.keeper_parts.proofs.Changing.{told_more}
 use Rattle.keeper_parts.proofs.Standing.{needs_floor}
 use Rattle.keeper_parts.proofs.Growing.{floor_pos}
+use Rattle.keeper_parts.proofs.Telling.{tells_one}
 use Rattle.keeper_catalog.specs.View.{View, Keeps}
 use Rattle.commit_laws.specs.Laws.{SaysVersion}
 use Rattle.commit_laws.proofs.Loading.{held_recipe}
@@ -110,6 +111,34 @@ spelled s v k q before after says set number is = subst (λ (t : Option Blobs). 
     at : (b : Option Blobs) → (IsSome b → q ≡ recipe_of s v k) → Has (blobs_with b (recipe_name q.set q.version) (Some (recipe_bytes q))) (recipe_name s v) (Some (recipe_bytes_2 k.sum (recipe_of s v k)))
     at None says = tt
     at (Some m) says = get_is m (recipe_name q.set q.version) (Some (recipe_bytes q)) (recipe_name s v) (λ i. recipe_name (sym set i) (sym number i)) ∙ ap (λ (p : Recipe). Some (recipe_bytes p)) (says refl)
+
+-- the names of kept recipes, behind the put
+
+pub others_stay : (s n t v : ℕ) (q : Recipe) (mid new : Option Blobs) → q.set ≡ s → q.version ≡ n → recipe_name t v ≢ recipe_name s n
+    → (new ≡ mid) ⊎ (new ≡ blobs_with mid (recipe_name q.set q.version) (Some (recipe_bytes q))) → blob_at new (recipe_name t v) ≡ blob_at mid (recipe_name t v)
+others_stay s n t v q mid new set number apart may =
+    other_blob {before = mid} {after = new} {past = None} {now = None} {name = recipe_name q.set q.version} {bytes = Some (recipe_bytes q)} (record { blobs = may; history = inl refl }) (recipe_name t v)
+    (λ is. apart (is ∙ (λ i. recipe_name (set i) (number i))))
+
+pub told_put : (q : Recipe) (mid new : Option Blobs) → (new ≡ mid) ⊎ (new ≡ blobs_with mid (recipe_name q.set q.version) (Some (recipe_bytes q))) → IsSome mid → IsSome new
+told_put q mid new may some = tells_one mid new (recipe_name q.set q.version) (Some (recipe_bytes q)) may some
+
+pub own_or_second : (s v : ℕ) (k : KeptVersion) (q : Recipe) (mid new : Option Blobs) → (IsSome mid → q ≡ recipe_of s v k) → q.set ≡ s → q.version ≡ v
+    → (new ≡ mid) ⊎ (new ≡ blobs_with mid (recipe_name q.set q.version) (Some (recipe_bytes q)))
+    → (blob_at new (recipe_name s v) ≡ blob_at mid (recipe_name s v)) ⊎ (blob_at new (recipe_name s v) ≡ Some (recipe_bytes_2 k.sum (recipe_of s v k)))
+own_or_second s v k q mid new says set number may = ⊎_elim
+    (λ same. inl (ap (λ (t : Option Blobs). blob_at t (recipe_name s v)) same))
+    (λ is. ⊎_elim
+    (λ (none : blob_at (blobs_with mid (recipe_name q.set q.version) (Some (recipe_bytes q))) (recipe_name s v) ≡ blob_at mid (recipe_name s v)). inl (ap (λ (t : Option Blobs). blob_at t (recipe_name s v)) is ∙ none))
+    (λ second. inr (ap (λ (t : Option Blobs). blob_at t (recipe_name s v)) is ∙ second))
+    (at mid says))
+    may
+  where
+    at : (b : Option Blobs) → (IsSome b → q ≡ recipe_of s v k)
+        → (blob_at (blobs_with b (recipe_name q.set q.version) (Some (recipe_bytes q))) (recipe_name s v) ≡ blob_at b (recipe_name s v))
+        ⊎ (blob_at (blobs_with b (recipe_name q.set q.version) (Some (recipe_bytes q))) (recipe_name s v) ≡ Some (recipe_bytes_2 k.sum (recipe_of s v k)))
+    at None says = inl refl
+    at (Some m) says = inr (get_is m (recipe_name q.set q.version) (Some (recipe_bytes q)) (recipe_name s v) (λ i. recipe_name (sym set i) (sym number i)) ∙ ap (λ (p : Recipe). Some (recipe_bytes p)) (says refl))
 
 -- what is kept
 

@@ -21,7 +21,7 @@ use Rattle.vault_types.specs.Bytes.{spot_of, HasRow}
 use Rattle.vault_types.specs.Shelf.{Blobs, recipe_name}
 use Rattle.blob_parts.specs.Causes.{Has}
 use Rattle.recipe_store.specs.Damages.{IsRecipeDamage}
-use Rattle.vault_types.specs.Blobs.{recipe_bytes_1}
+use Rattle.vault_types.specs.Blobs.{recipe_bytes_1, recipe_bytes_2}
 use Rattle.vault_types.specs.State.{State, KeptVersion, latest_of, next_of, length_of, version_of, recipe_of}
 use Rattle.vault_types.specs.Backup.{inherited_ids}
 use Rattle.vault_types.specs.Events.{Core, Change, Job, Pin, IsNear, after_refused}
@@ -84,9 +84,11 @@ pub record Lists (pins : List Pin) (number id : ℕ) (c : Container) : Type 0 wh
   pub listed : Contains pin.containers c
   pub has_id : c.table.id ≡ id
 
--- the sum that a recipe gives is that of the kept version; only a recipe of the first format gives none
+-- the sum that a recipe gives is that of the kept version, and it is in the second format; one of the first gives none
 abbrev pub IsWholeOf : Option Blobs → ℕ → ℕ → KeptVersion → Option Fp → Type 0
-IsWholeOf told s v k whole = (whole ≡ Some k.sum) ⊎ ((whole ≡ None) × Has told (recipe_name s v) (Some (recipe_bytes_1 (recipe_of s v k))))
+IsWholeOf told s v k whole =
+    ((whole ≡ Some k.sum) × Has told (recipe_name s v) (Some (recipe_bytes_2 k.sum (recipe_of s v k))))
+    ⊎ ((whole ≡ None) × Has told (recipe_name s v) (Some (recipe_bytes_1 (recipe_of s v k))))
 
 -- the pin lists the container of a spot, and the spot lies within its payload
 abbrev pub HasListed : List Pin → ℕ → Spot → Type 0

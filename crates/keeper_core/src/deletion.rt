@@ -5,6 +5,7 @@ ghost use Rattle.vault_types.specs.declared.Name.{Name as Named};
 ghost use Rattle.vault_types.specs.Lists.{has};
 ghost use Rattle.vault_types.specs.State.{latest_of};
 ghost use Rattle.vault_types.specs.Delete.{delete, removed};
+ghost use Rattle.vault_types.specs.Shelf.{blob_at};
 ghost use Rattle.vault_types.specs.Events.{Core, IsNear, after_delete, after_release, delete_change};
 ghost use Rattle.vault_traits.specs.Crash.{LeavesNowIfTold, LeavesOnlyIfTold};
 ghost use Rattle.restore_pins.specs.Pins.{numbers, without};
@@ -96,6 +97,7 @@ impl<S: Shelf> Keeper<S> {
         requires { IsTrue (has no (numbers self.old.pins)) }
         ensures releases { (K : Core) → Keeps self.old K → Keeps self.new (after_release no self.new.memo.strays K) }
         ensures pins { self.new.pins ≡ without no self.old.pins }
+        ensures others { (K : Core) → Keeps self.old K → (n : Named) → (IsReleased K no n → ⊥) → blob_at self.new.told.blobs n ≡ blob_at self.old.told.blobs n }
         ensures any_moment { (K : Core) → Keeps self.old K → LeavesNowIfTold self.old.told.history (IsNear K.state K.other)
             → LeavesOnlyIfTold self.old.told.history self.new.told.history (IsNear K.state K.other) }
 

@@ -1,9 +1,9 @@
 //! Recipes of the first format get the sums of their versions.
-ghost use Rattle.std.specs.Prelude.{◌≡◌, ◌==◌, [], length, None, Some, IsSome, IsTrue, IfErr, OnOk, OnErr, if◌then◌else◌};
+ghost use Rattle.std.specs.Prelude.{◌≡◌, ◌≢◌, ◌≤◌, ◌⊎◌, ◌==◌, ℕ, [], length, None, Some, IsSome, IsTrue, IfErr, OnOk, OnErr, if◌then◌else◌};
 ghost use Rattle.vault_types.specs.Names.{fp, IsFp};
-ghost use Rattle.vault_types.specs.State.{KeptVersion, version_of, recipe_of, is_kept};
+ghost use Rattle.vault_types.specs.State.{KeptVersion, latest_of, version_of, recipe_of, is_kept};
 ghost use Rattle.vault_types.specs.Blobs.{recipe_bytes_2};
-ghost use Rattle.vault_types.specs.Shelf.{recipe_name};
+ghost use Rattle.vault_types.specs.Shelf.{recipe_name, blob_at};
 ghost use Rattle.vault_types.specs.Events.{Core, IsNear, after_mend};
 ghost use Rattle.vault_traits.specs.Crash.{LeavesNowIfTold, LeavesOnlyIfTold};
 ghost use Rattle.blob_parts.specs.Causes.{Has, HasCauses};
@@ -39,6 +39,12 @@ impl<S: Shelf> Keeper<S> {
         ensures ok { OnOk result ((K : Core) → Keeps self.old K → Keeps self.new (after_mend K.strays K)) }
         ensures spelled { OnOk result ((K : Core) (k : KeptVersion) → Keeps self.old K → version_of K.state set version ≡ Some k → Has self.new.told.blobs (recipe_name set version) (Some (recipe_bytes_2 k.sum (recipe_of set version k)))) }
         ensures err { OnErr result ((K : Core) → Keeps self.old K → IsRefused self.new K) }
+
+        // In every case each other kept recipe stays, and this one does or is in format 2.
+        ensures others { (K : Core) → Keeps self.old K → (s v : ℕ) → v ≤ latest_of K.state s → recipe_name s v ≢ recipe_name set version → blob_at self.new.told.blobs (recipe_name s v) ≡ blob_at self.old.told.blobs (recipe_name s v) }
+        ensures own { (K : Core) (k : KeptVersion) → Keeps self.old K → version_of K.state set version ≡ Some k
+            → (blob_at self.new.told.blobs (recipe_name set version) ≡ blob_at self.old.told.blobs (recipe_name set version)) ⊎ (blob_at self.new.told.blobs (recipe_name set version) ≡ Some (recipe_bytes_2 k.sum (recipe_of set version k))) }
+        ensures tells { IsSome self.old.told.blobs → IsSome self.new.told.blobs }
 
         // A crash at any moment leaves what it could leave before; at `Ok` only the state.
         ensures any_moment { (K : Core) → Keeps self.old K → LeavesNowIfTold self.old.told.history (IsNear K.state K.other)

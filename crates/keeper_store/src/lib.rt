@@ -7,6 +7,7 @@ use keeper_core::Keeper;
 use script_laws::StateKeeper;
 use script_runner::Store;
 use serial_delete::delete_plain;
+use serial_migrate::migrate_plain;
 use serial_restore::restore_plain;
 use std::alloc::Global;
 use std::marker::Model;
@@ -115,6 +116,10 @@ impl<S: Shelf> ShelfStore<S> for KeeperStore<S> {
             });
         }
         self.keeper.recipe(alloc, set, version)
+    }
+
+    fn migrate(&mut self, alloc: Global) -> Result<Answer, Fault> {
+        migrate_plain(alloc, &mut self.keeper)
     }
 
     fn close(self) -> S {

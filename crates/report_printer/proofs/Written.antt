@@ -17,7 +17,7 @@ pub takes_nothing : (told : Option (List ℕ)) → Takes told told []
 takes_nothing None = refl
 takes_nothing (Some x) = ap Some (sym (append-nil x))
 
-takes_then : (before mid now : Option (List ℕ)) (x y : List ℕ) → Takes before mid x → Takes mid now y → Takes before now (x ++ y)
+pub takes_then : (before mid now : Option (List ℕ)) (x y : List ℕ) → Takes before mid x → Takes mid now y → Takes before now (x ++ y)
 takes_then None mid now x y p q = q ∙ ap (option_map (λ z. z ++ y)) p
 takes_then (Some w) mid now x y p q = q ∙ ap (option_map (λ z. z ++ y)) p ∙ ap Some (append_assoc w x y)
 
@@ -55,7 +55,7 @@ up_to answers i d within =
     ap report_text all ∙ flat_map-append answer_text (take i answers) (a ∷ []) ∙ ap (λ (x : List ℕ). report_text (take i answers) ++ x) (append-nil (answer_text a))
 
 -- a front of what comes next, behind what was written
-front_behind : (done up whole line behind : List ℕ) (before mid now : SinkTold) → done ++ line ≡ up → up ++ behind ≡ whole → Takes before.taken mid.taken done → TakesFront mid now line → TakesFront before now whole
+pub front_behind : (done up whole line behind : List ℕ) (before mid now : SinkTold) → done ++ line ≡ up → up ++ behind ≡ whole → Takes before.taken mid.taken done → TakesFront mid now line → TakesFront before now whole
 front_behind done up whole line behind before mid now one two taken (front, rest, more) = (
   done ++ front,
   (

@@ -40,7 +40,8 @@ fn print<O: Sink>(answer: &Answer, out: &mut O) -> Option<Fault>
 
 /// Prints the lines of the answers one after another. Where the sink fails, that is the fault, and a front is written.
 pub fn print_all<O: Sink>(answers: &[Answer], out: &mut O) -> Option<Fault>
-    ensures { IsPrinted (report_text answers.now) (O.told out.old) (O.told out.new) result }
+    ensures printed { IsPrinted (report_text answers.now) (O.told out.old) (O.told out.new) result }
+    ensures later { (O.told out.old).faults ≤ (O.told out.new).faults }
 {
     for answer in answers {
         if let Some(fault) = print(answer, out) {

@@ -1,25 +1,22 @@
 -- What a run of each command is, from its first line on.
-use Rattle.std.specs.Prelude.{◌≡◌, ◌+◌, ◌*◌, ◌^◌, ◌<◌, ◌≤◌, ◌&&◌, ◌==◌, ℕ, Bool, true, false, IsTrue, List, [], ◌∷◌, ◌++◌, length, codes, decimal, unwrap_or, Option, Some, IsSomeAnd, IfSome}
+use Rattle.std.specs.Prelude.{◌≡◌, ◌+◌, ◌*◌, ◌^◌, ◌&&◌, ◌==◌, ℕ, Bool, true, false, IsTrue, List, [], ◌∷◌, length, Option, Some, IsSomeAnd, IfSome}
 use Rattle.vault_types.specs.declared.Limits.{Limits}
 use Rattle.vault_types.specs.declared.JobConfig.{JobConfig}
 use Rattle.vault_types.specs.declared.Kind.TheVariants as kind
 use Rattle.vault_types.specs.declared.Fault.{Fault}
 use Rattle.vault_types.specs.declared.Fault.TheVariants as fault
 use Rattle.vault_types.specs.declared.Answer.{Answer}
-use Rattle.vault_types.specs.declared.Answer.TheVariants.{Restored, Shown, Refused}
+use Rattle.vault_types.specs.declared.Answer.TheVariants.{Shown, Refused}
 use Rattle.vault_types.specs.declared.Line.{Line}
 use Rattle.vault_types.specs.declared.Line.TheVariants.{Backup, Restore, Delete}
 use Rattle.vault_types.specs.State.{State, is_kept, floor_of, latest_of, version_of, recipe_of}
-use Rattle.vault_types.specs.Bytes.{bytes_of}
-use Rattle.vault_types.specs.Generator.{generated, fill_lines}
-use Rattle.vault_types.specs.Script.{Sources, after, is_refused}
-use Rattle.vault_types.specs.Texts.{recipe_text, output_text}
-use Rattle.vault_traits.specs.Told.{ShelfTold, PlacesTold, SinkTold, Files, Takes}
+use Rattle.vault_types.specs.Script.{is_refused}
+use Rattle.vault_types.specs.Texts.{recipe_text}
+use Rattle.vault_traits.specs.Told.{ShelfTold, SinkTold, Takes}
 use Rattle.script_laws.specs.Calls.{HasWritten}
 use Rattle.script_laws.specs.Causes.{Counts, CausesRise, fits, counts_of_source, counts_of_sink, counts_of_shelf}
 use Rattle.script_laws.specs.Complete.{IsWell, IsComplete}
 use Rattle.script_laws.specs.Leaves.{Begins}
-use Rattle.script_laws.specs.Outputs.{AreFedBy}
 use Rattle.script_laws.specs.Script.{MeansScript, RunsLines}
 use Rattle.script_laws.specs.Strays.{StraysOf}
 use Rattle.run_laws.specs.World.{World, IsPrinted, TakesFront, report_text}
@@ -105,43 +102,5 @@ pub record RunsShow (set version : ℕ) (before now : World) (answers : List Ans
   pub history : now.shelf.history ≡ before.shelf.history
   pub gets : now.shelf.gets ≡ before.shelf.gets
   pub printed : IsPrinted (report_text answers) before.report now.report f
-  pub input : now.input ≡ before.input
-  pub places : now.places ≡ before.places
-
--- fill
-
--- what is printed of the restores that were done: the sum of the bytes under each name
-abbrev pub outputs_text : Files → List Line → List Answer → List ℕ
-outputs_text files [] answers = []
-outputs_text files (line ∷ lines) [] = []
-outputs_text files (Restore s v name cache ∷ lines) (Restored t w bytes loads ∷ answers) = output_text v (unwrap_or (files name) []) ++ outputs_text files lines answers
-outputs_text files (line ∷ lines) (answer ∷ answers) = outputs_text files lines answers
-
--- a restore is refused by its sink only where its version is longer than the room of each output
-abbrev pub NeedRoom : Sources → State → List Line → List Answer → Type 0
-NeedRoom sources S [] answers = Unit {0}
-NeedRoom sources S (line ∷ lines) [] = Unit {0}
-NeedRoom sources S (Restore s v name cache ∷ lines) (Refused (fault.WriteFault n) ∷ answers) = (8388671 < length (bytes_of S s v)) × NeedRoom sources S lines answers
-NeedRoom sources S (line ∷ lines) (answer ∷ answers) = NeedRoom sources (after sources S line answer) lines answers
-
--- places whose sources are the versions of the generator, and that have not failed
-pub record AreGenerated (seed versions : ℕ) (places : PlacesTold) : Type 0 where
-  pub sources : IsSomeAnd places.files (λ files. (v : ℕ) → 1 ≤ v → v ≤ versions → files (codes "gen-" ++ decimal v) ≡ Some (generated seed v))
-  pub opened : places.faults ≡ 0
-  pub read : places.read_faults ≡ 0
-  pub written : places.write_faults ≡ 0
-
--- the script of `fill` over places of its own, none of which fails to be opened or read; the report and the sums of the
--- outputs are on `out`
-pub record RunsFill (seed versions : ℕ) (limits : Limits) (before now : World) (answers : List Answer) (f : Option Fault) : Type 0 where
-  pub made : PlacesTold
-  pub left : PlacesTold
-  pub generated : AreGenerated seed versions made
-  pub opened : left.faults ≡ 0
-  pub read : left.read_faults ≡ 0
-  pub runs : RunsLines (Begins before.shelf) (StraysOf before.shelf) limits (fill_lines versions) answers before.shelf now.shelf made left
-  pub room : (S : State) (sources : Sources) → Begins before.shelf S → AreFedBy made.files sources (fill_lines versions) → NeedRoom sources S (fill_lines versions) answers
-  pub printed : IsSomeAnd left.files (λ files. IsPrinted (report_text answers ++ outputs_text files (fill_lines versions) answers) before.out now.out f)
-  pub report : now.report ≡ before.report
   pub input : now.input ≡ before.input
   pub places : now.places ≡ before.places

@@ -14,19 +14,23 @@ use Rattle.script_laws.specs.Strays.{StraysOf}
 use Rattle.run_laws.specs.World.{World, status_after, IsPrinted, IsTold, report_text}
 use Rattle.run_laws.specs.Early.{EndsEarly, IsStartFault, IsSameBut}
 use Rattle.run_laws.specs.Courses.{RunsBatch, RunsBackup, RunsRestore, RunsDelete, RunsShow}
+use Rattle.run_laws.specs.Filling.{RunsFill}
+use Rattle.run_laws.specs.Migrating.{RunsMigrate}
 
 -- what a run of a command is, from its first line on
 abbrev pub Course : Type 1
 Course = Limits → World → World → List Answer → Option Fault → Type 0
 
--- the scripts from words and from the input, and `show`. What the other commands do is given: a backup with the sampled
--- index, a restore by areas, `fill`, and those that are no script
+-- the scripts from words, from the input and of `fill`, `show` and `migrate`. What the other commands do is given: a backup with
+-- the sampled index, a restore by areas, and `scrub`
 abbrev pub Runs : (Command → Course) → Command → Course
 Runs Others (command.Backup set config queue lanes None) limits before now answers f = RunsBackup set config limits before now answers f
 Runs Others (command.Restore set version cache None) limits before now answers f = RunsRestore set version cache limits before now answers f
 Runs Others (command.Delete set through) limits before now answers f = RunsDelete set through limits before now answers f
 Runs Others (command.Show set version) limits before now answers f = RunsShow set version before now answers f
 Runs Others (command.Batch queue lanes workers) limits before now answers f = RunsBatch limits before now answers f
+Runs Others (command.Fill seed versions queue lanes workers) limits before now answers f = RunsFill seed versions limits before now answers f
+Runs Others command.Migrate limits before now answers f = RunsMigrate before now answers f
 Runs Others other limits before now answers f = Others other limits before now answers f
 
 -- a run of the words: it ends before its first line, with a fault that has its cause, or it runs as the command says

@@ -1,8 +1,10 @@
 //! What a run of the program's words is (`Run`): it ends before its first line (`Early`), or it runs as its command says
-//! (`Courses`), over what is handed in and given back (`World`). And laws on it, whose proofs a call cites that runs words.
+//! (`Courses`, `Filling`), over what is handed in and given back (`World`). And laws on it, whose proofs a call cites that runs
+//! words.
 #![tactic(auto)]
 
 ghost use Rattle.std.specs.Prelude.{◌≡◌, ◌⊎◌, ℕ, List, [], ◌∷◌, Option, Some, None, IfSome, IsSomeAnd, Result};
+ghost use Rattle.std.specs.List.{filter_map};
 ghost use Rattle.vault_types.specs.declared.Answer.{Answer};
 ghost use Rattle.vault_types.specs.declared.Command.TheVariants as command;
 ghost use Rattle.vault_types.specs.declared.Fault.{Fault};
@@ -14,6 +16,7 @@ ghost use Rattle.vault_types.specs.State.{State};
 ghost use Rattle.vault_types.specs.Words.{command_of};
 ghost use Rattle.vault_traits.specs.Told.{PlacesTold, ShelfTold, SourceTold};
 ghost use Rattle.script_laws.specs.Calls.{BacksUpLine, DeletesLine, RestoresLine};
+ghost use Rattle.script_laws.specs.Causes.{place_number, read_number};
 ghost use Rattle.script_laws.specs.Leaves.{Begins};
 ghost use Rattle.script_laws.specs.Script.{RunsLines};
 ghost use Rattle.script_laws.specs.Steps.{answer_of};
@@ -21,8 +24,12 @@ ghost use Rattle.script_laws.specs.Strays.{StraysOf};
 ghost use Rattle.run_laws.specs.World.{World, IsPrinted, report_text};
 ghost use Rattle.run_laws.specs.Early.{CanOpen, EndsEarly, IsBatch, IsSameBut, IsScript};
 ghost use Rattle.run_laws.specs.Courses.{RunsBackup, RunsBatch, RunsDelete, RunsRestore};
+ghost use Rattle.run_laws.specs.Filling.{RunsFill};
 ghost use Rattle.run_laws.specs.Run.{EndsAtOpening, IsRun, RanLines, with_input};
 
+mod migrating;
+
+pub use migrating::migrations_are_runs;
 use script_laws::StateKeeper;
 
 /// A run that ends where the shelf is opened ends before its first line, where its words, and its script if it takes one,
@@ -63,4 +70,10 @@ pub fn calls_are_runs<K: StateKeeper>()
         → ((S : State) → Begins before.shelf S → (n : Name) → K.strays k n → StraysOf before.shelf S n)
         → ((S : State) → Begins before.shelf S → K.keeps k S None) → DeletesLine (K.keeps k) (K.keeps k') (K.strays k) (K.strays k') s n (K.shelf k) (K.shelf k') result
         → IsPrinted (report_text (answer_of result ∷ [])) before.out now.out f → now.report ≡ before.report → now.input ≡ before.input → now.places ≡ before.places → RunsDelete s n limits before now (answer_of result ∷ []) f }
+{}
+
+/// No line of `fill` is refused as its source or its sink could not be opened, or as its source failed.
+pub fn fills_open_and_read_all()
+    ensures { (seed versions : ℕ) (limits : Limits) (before now : World) (answers : List Answer) (f : Option Fault) → RunsFill seed versions limits before now answers f
+        → (filter_map place_number answers ≡ []) × (filter_map read_number answers ≡ []) }
 {}

@@ -11,3 +11,4 @@ pub mod OneLine
 pub mod LineLemmas
 pub mod WholeLines
 pub mod Sound
+pub mod Rooms

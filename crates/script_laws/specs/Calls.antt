@@ -1,11 +1,12 @@
 -- What the calls of a keeper that run one line ensure: a backup of what a source has left, a restore to a sink, and a
 -- deletion. What the keeper keeps is given: a state, and the change that a failed write may have made; and the names that
 -- it knows as strays.
-use Rattle.std.specs.Prelude.{◌≡◌, ◌≤◌, ℕ, false, IsTrue, List, [], ◌∷◌, Option, Some, IfSome, IfOk, OnOk, Result, Ok, Err}
+use Rattle.std.specs.Prelude.{◌≡◌, ◌≤◌, ◌<◌, ℕ, false, IsTrue, List, [], ◌∷◌, length, Option, Some, IfSome, IfOk, IfErr, OnOk, Result, Ok, Err}
 use Rattle.vault_types.specs.declared.Limits.{Limits}
 use Rattle.vault_types.specs.declared.JobConfig.{JobConfig}
 use Rattle.vault_types.specs.declared.Name.{Name}
 use Rattle.vault_types.specs.declared.Fault.{Fault}
+use Rattle.vault_types.specs.declared.Fault.TheVariants as fault
 use Rattle.vault_types.specs.declared.Answer.{Answer}
 use Rattle.vault_types.specs.declared.Answer.TheVariants.{Refused}
 use Rattle.vault_types.specs.declared.Line.TheVariants.{Backup, Restore, Delete}
@@ -39,6 +40,11 @@ abbrev pub HasWritten : State → ℕ → ℕ → Answer → Option (List ℕ) �
 HasWritten S s v answer before now =
     (front : List ℕ) × IsFrontOf front (bytes_of S s v) × Takes before now front × (is_refused answer ≡ false → front ≡ bytes_of S s v)
 
+-- where the sink failed, it has taken less than these bytes
+abbrev pub IsShortAt : List ℕ → Option (List ℕ) → Option (List ℕ) → Fault → Type 0
+IsShortAt bytes before now (fault.WriteFault n) = (front : List ℕ) × Takes before now front × (length front < length bytes)
+IsShortAt bytes before now other = Unit {0}
+
 pub record RestoresLine (before behind : Keeping) (Known Behind : Name → Type 0) (set version slots : ℕ) (old new : ShelfTold) (from to : SinkTold) (result : Result Answer Fault) : Type 0 where
   pub done : IfOk result (λ a. is_refused a ≡ false)
   pub kind : (limits : Limits) → IsTrue (fits limits (Restore set version [] slots) (answer_of result))
@@ -47,6 +53,7 @@ pub record RestoresLine (before behind : Keeping) (Known Behind : Name → Type 
       → (next : Option Change) × behind (after (λ _. []) S (Restore set version [] slots) (answer_of result)) next
       × StepsOn limits (λ _. []) S other (Restore set version [] slots) (answer_of result) next Known Behind old new
   pub written : (S : State) (other : Option Change) → before S other → HasWritten S set version (answer_of result) from.taken to.taken
+  pub short : (S : State) (other : Option Change) → before S other → IfErr result (IsShortAt (bytes_of S set version) from.taken to.taken)
 
 pub record DeletesLine (before behind : Keeping) (Known Behind : Name → Type 0) (set through : ℕ) (old new : ShelfTold) (result : Result Answer Fault) : Type 0 where
   pub done : IfOk result (λ a. is_refused a ≡ false)

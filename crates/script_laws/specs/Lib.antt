@@ -9,3 +9,4 @@ pub mod Script
 pub mod View
 pub mod Steps
 pub mod Calls
+pub mod Room

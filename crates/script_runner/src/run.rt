@@ -1,10 +1,13 @@
 // A run of lines.
-ghost use Rattle.std.specs.Prelude.{◌≡◌, ◌≤◌, ℕ, List, None, IfOk, IfErr};
+ghost use Rattle.std.specs.Prelude.{◌≡◌, ◌≤◌, ℕ, List, Option, None, IsSome, IfOk, IfErr};
 ghost use Rattle.std.specs.List.{AllByRecursion};
+ghost use Rattle.vault_types.specs.Events.{Change};
+ghost use Rattle.vault_types.specs.Script.{Sources};
 ghost use Rattle.vault_types.specs.State.{State};
 ghost use Rattle.vault_types.specs.declared.Line.TheVariants as line;
 ghost use Rattle.backup_pass.specs.Passing.{IsInRange};
-ghost use Rattle.script_laws.specs.Outputs.{AreApartLines};
+ghost use Rattle.script_laws.specs.Outputs.{AreApartLines, AreFedBy};
+ghost use Rattle.script_laws.specs.Room.{NeedsRoom, NeedRoom};
 ghost use Rattle.script_laws.specs.Script.{RunsLines};
 ghost use Rattle.script_laws.specs.Steps.{StepsLine, read_numbered, write_numbered};
 ghost use Rattle.word_ranges.specs.Ranges.{IsLineInRange, AreLimits};
@@ -91,7 +94,8 @@ fn restore_line<K: Store, P: Places>(
 ) -> Answer
     requires some { 1 ≤ slots }
     requires few { slots ≤ 64 }
-    ensures { StepsLine K.shelf K.keeps K.strays limits.now (record { keeper = store.old; places = P.told places.old })
+    ensures room { (S : State) (other : Option Change) → K.keeps store.old S other → IsSome (P.told places.old).files → NeedsRoom P.room S (line.Restore set version name.now slots) result }
+    ensures steps { StepsLine K.shelf K.keeps K.strays limits.now (record { keeper = store.old; places = P.told places.old })
         (line.Restore set version name.now slots) result (record { keeper = store.new; places = P.told places.new }) }
 {
     if !store.kept(set, version) {
@@ -142,7 +146,8 @@ fn one_line<K: Store, P: Places>(
 ) -> Answer
     requires range { IsLineInRange line.now }
     requires limits { AreLimits limits.now }
-    ensures { StepsLine K.shelf K.keeps K.strays limits.now (record { keeper = store.old; places = P.told places.old })
+    ensures room { (S : State) (other : Option Change) → K.keeps store.old S other → IsSome (P.told places.old).files → NeedsRoom P.room S line.now result }
+    ensures steps { StepsLine K.shelf K.keeps K.strays limits.now (record { keeper = store.old; places = P.told places.old })
         line.now result (record { keeper = store.new; places = P.told places.new }) }
 {
     match line {
@@ -160,7 +165,8 @@ fn one_line<K: Store, P: Places>(
 }
 
 /// Runs the lines one after another, each over the places that it names. Each answers, and a refused one leaves the
-/// store's versions; `Memory` comes before the first, and then nothing has changed.
+/// store's versions; `Memory` comes before the first, and then nothing has changed. Where the sinks of the places have
+/// room for so many bytes, one fails only where the version is longer.
 pub fn script_plain<K: Store, P: Places>(
     alloc: Global,
     store: K,
@@ -172,6 +178,7 @@ pub fn script_plain<K: Store, P: Places>(
     requires ranges { AllByRecursion IsLineInRange lines.now }
     requires limits { AreLimits limits.now }
     ensures runs { IfOk result (λ done. RunsLines (λ S. K.keeps store S None) (λ S. K.strays store) limits.now lines.now done.answers.items (K.shelf store) (K.shelf done.store) (P.told places.old) (P.told places.new)) }
+    ensures room { IfOk result (λ done. (S : State) (sources : Sources) → K.keeps store S None → AreFedBy (P.told places.old).files sources lines.now → IsSome (P.told places.old).files → NeedRoom P.room sources S lines.now done.answers.items) }
     ensures memory { IfErr result (λ e. (e.1 ≡ store) × (P.told places.new ≡ P.told places.old)) }
 {
     let mut store = store;

@@ -15,8 +15,8 @@ use Rattle.vault_types.specs.Bytes.{bytes_of}
 use Rattle.vault_types.specs.Events.{Core, Pin, IsNear, pin_of, with_pins, after_pin, after_release, containers_of}
 use Rattle.vault_types.specs.Lists.{has}
 use Rattle.vault_types.specs.Plans.{requests}
-use Rattle.vault_types.specs.Shelf.{Blobs}
-use Rattle.vault_types.specs.State.{KeptVersion, version_of, is_kept, floor_of, latest_of}
+use Rattle.vault_types.specs.Shelf.{Blobs, blob_at}
+use Rattle.vault_types.specs.State.{State, KeptVersion, version_of, is_kept, floor_of, latest_of}
 use Rattle.vault_types.specs.Tables.{Container}
 use Rattle.vault_traits.specs.Crash.{LeavesNowIfTold, LeavesOnlyIfTold}
 use Rattle.vault_traits.specs.Told.{SinkTold}
@@ -27,10 +27,11 @@ use Rattle.keeper_catalog.specs.View.{View, Keeps, HasCore}
 use Rattle.commit_laws.proofs.Listing.{some_same}
 use Rattle.keeper_core.specs.Calls.{HasListed, IsPinned, IsPinDamage, IsWholeOf}
 use Rattle.restore_assembler.proofs.Written.{takes_nothing}
+use Rattle.script_laws.specs.Calls.{IsShortAt}
 use Rattle.serial_restore.specs.Going.{Stays, HasPinned, IsCopied, IsStopped, IsAtMostLeast}
 use Rattle.serial_restore.specs.Restoring.{whole_of, IsRestoreFault, IsLeft, IsCut, HasGone}
 use Rattle.serial_restore.proofs.Restores.{has_last, listed_gone, stayed, moment, stayed_still, moment_still, leaves_same}
-use Rattle.serial_restore.proofs.Versions.{of_pin, restored, cut, found_in}
+use Rattle.serial_restore.proofs.Versions.{of_pin, restored, cut, found_in, short_in}
 use Rattle.serial_restore.proofs.Faults.{pin_fault, told_version, copy_fault}
 
 -- what a pin ensures
@@ -53,6 +54,7 @@ pub record IsRelease (w x : View) (no : ℕ) : Type 0 where
   pub pins : x.pins ≡ without no w.pins
   pub any_moment : (K : Core) → Keeps w K → LeavesNowIfTold w.told.history (IsNear K.state K.other) → LeavesOnlyIfTold w.told.history x.told.history (IsNear K.state K.other)
   pub within : (K : Core) → Keeps w K → (q : Name) → Contains x.memo.strays q → Contains w.memo.strays q ⊎ IsReleased K no q
+  pub others : (K : Core) → Keeps w K → (q : Name) → (IsReleased K no q → ⊥) → blob_at x.told.blobs q ≡ blob_at w.told.blobs q
   pub tells : IsSome w.told.blobs → IsSome x.told.blobs
   pub gets : x.told.gets ≡ w.told.gets
   pub later : w.told.faults ≤ x.told.faults
@@ -95,7 +97,7 @@ not_kept_gone v told s n slots floor latest kept low high = record {
     tells = λ some. some;
     job = refl;
     pins = refl;
-    state = λ K keeps. stayed_still v v K s n keeps (λ J same. same);
+    state = λ K keeps. stayed_still v v K s n refl keeps (λ J same. same);
     any_moment = λ K keeps now. leaves_same v.told.history (IsNear K.state K.other) now;
   };
   sink = omega arith;
@@ -103,7 +105,12 @@ not_kept_gone v told s n slots floor latest kept low high = record {
   cause = λ K keeps. (sym (kept K keeps), ap (λ (l : ℕ). fault.NotKept s n l latest) (low K keeps) ∙ ap (λ (h : ℕ). fault.NotKept s n (floor_of K.state s) h) (high K keeps));
   ok = tt;
   err = λ tells K k keeps is. cut_early v v told K s n slots k refl;
+  short = λ tells K k keeps is. tt;
 }
+
+pin_short : (bytes : List ℕ) (before now : Option (List ℕ)) (a b : ℕ) (told : Option Blobs) (S : State) (s n : ℕ) (f : Fault) → IsCause a b (IsPinDamage told S s n) f → IsShortAt bytes before now f
+pin_short bytes before now a b told S s n (fault.WriteFault i) h = absurd h
+pin_short bytes before now a b told S s n other h = tt
 
 -- a pin that was refused
 pub pin_gone : (v u : View) (told : SinkTold) (s n slots : ℕ) (f : Fault) → HasCore v → ((K : Core) → Keeps v K → Keeps u K) × (u.pins ≡ v.pins)
@@ -115,7 +122,7 @@ pin_gone v u told s n slots f core still same shelf later cause = record {
     tells = still_tells v.told.blobs u.told.blobs shelf.0;
     job = same.2;
     pins = still.1;
-    state = λ K keeps. stayed_still v u K s n keeps still.0;
+    state = λ K keeps. stayed_still v u K s n shelf.0 keeps still.0;
     any_moment = λ K keeps now. moment_still v u K shelf.1 now;
   };
   sink = omega arith;
@@ -123,6 +130,7 @@ pin_gone v u told s n slots f core still same shelf later cause = record {
   cause = λ K keeps. pin_fault v u told told K.state s n f (cause K keeps);
   ok = tt;
   err = λ tells K k keeps is. cut_early v u told K s n slots k shelf.2;
+  short = λ tells K k keeps is. pin_short (bytes_of K.state s n) told.taken told.taken v.told.faults u.told.faults v.told.blobs K.state s n f (cause K keeps);
 }
 
 -- a version that was pinned, copied and released
@@ -135,10 +143,10 @@ module _ (v u w x : View) (before now : SinkTold) (s n slots no total : ℕ) (sp
     pins = r.pins ∙ ap (without no) (stays.pins ∙ p.given.1) ∙ listed_gone no (record { number = no; version = n; ids = p.given.0 }) v.pins refl p.fresh;
     state = λ K keeps.
         let q = p.pinned K keeps in
-        stayed v u w x K keeps s n no p.fresh p.same.0 stays r.releases r.within (q.0, q.1, q.3) (λ tells k kept. (p.ok tells K k keeps kept).0);
+        stayed v u w x K keeps s n no p.fresh p.same.0 stays r.releases r.within r.others p.shelf.0 (q.0, q.1, q.3) (λ tells k kept. (p.ok tells K k keeps kept).0);
     any_moment = λ K keeps.
         let q = p.pinned K keeps in
-        moment v u w x K keeps s n no p.fresh p.same.0 stays r.releases r.within (q.0, q.1, q.3) p.shelf.1 r.any_moment;
+        moment v u w x K keeps s n no p.fresh p.same.0 stays r.releases r.within r.others (q.0, q.1, q.3) p.shelf.1 r.any_moment;
   }
 
   pub copied_gone : (m : ℕ) → IsCopied u w no before now spots (option_map (whole_of s n) sum) slots m → HasGone v x before now s n slots (Ok (Restored s n total m))
@@ -152,6 +160,7 @@ module _ (v u w x : View) (before now : SinkTold) (s n slots no total : ℕ) (sp
         restored v K keeps s n no k kept p.fresh u total spots sum ok.1 ok.0 (p.lists (after_pin no s n k K) ok.0) (still_tells v.told.blobs u.told.blobs p.shelf.0 tells)
         w x before now slots p.shelf.2 r.gets (let range = p.range in let sets = keeps.core.state.sets in omega (arith, range, sets)) tells (p.whole tells K k keeps kept) m (Restored s n total m) refl copied;
     err = tt;
+    short = tt;
   }
 
   pub stopped_gone : (f : Fault) → IsStopped u w no before now spots (option_map (whole_of s n) sum) (IsAtMostLeast (requests (map (λ q. q.id) spots)) slots) f → HasGone v x before now s n slots (Err f)
@@ -165,6 +174,10 @@ module _ (v u w x : View) (before now : SinkTold) (s n slots no total : ℕ) (sp
         let ok = p.ok tells K k keeps kept in
         cut v K keeps s n no k kept p.fresh u total spots sum ok.1 ok.0 (p.lists (after_pin no s n k K) ok.0) (still_tells v.told.blobs u.told.blobs p.shelf.0 tells)
         w x before now slots p.shelf.2 r.gets (option_map (whole_of s n) sum) f stopped;
+    short = λ tells K k keeps kept.
+        let ok = p.ok tells K k keeps kept in
+        short_in v K keeps s n no k kept p.fresh u total spots sum ok.1 ok.0 (p.lists (after_pin no s n k K) ok.0) (still_tells v.told.blobs u.told.blobs p.shelf.0 tells)
+        (option_map (whole_of s n) sum) (IsAtMostLeast (requests (map (λ q. q.id) spots)) slots) w before now f stopped;
   }
     where
       why : (K : Core) → Keeps v K → (IsSome v.told.blobs × (k : KeptVersion) × (version_of K.state s n ≡ Some k)) ⊎ (IsSome v.told.blobs → (k : KeptVersion) → version_of K.state s n ≡ Some k → ⊥)

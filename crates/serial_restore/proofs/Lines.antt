@@ -30,7 +30,7 @@ use Rattle.commit_laws.proofs.Listing.{itself}
 use Rattle.deletion_laws.proofs.Members.{clash, or_left}
 use Rattle.keeper_core.specs.Calls.{IsPinDamage}
 use Rattle.keeper_core.proofs.Replacings.{version_there}
-use Rattle.script_laws.specs.Calls.{RestoresLine, HasWritten}
+use Rattle.script_laws.specs.Calls.{RestoresLine, HasWritten, IsShortAt}
 use Rattle.script_laws.specs.Causes.{CausesRise, fits, counts_of_sink}
 use Rattle.script_laws.specs.Complete.{IsWell, IsWellAnswered}
 use Rattle.script_laws.specs.Leaves.{Gets, StandsForOne}
@@ -231,6 +231,7 @@ restores v x before now s n slots result core range exact still gone = record {
   causes = rising result gone.kind gone.cause;
   steps = λ S other limits here. goes_from v x before now s n slots limits S other (answer_of result) here (steps_in limits here.core here.keeps here.job here.pins here.told (is_kept here.core.state s n) refl);
   written = λ S other here. subst (λ (T : State). HasWritten T s n (answer_of result) before.taken now.taken) here.state (written_in here.core here.keeps here.told (is_kept here.core.state s n) refl);
+  short = λ S other here. subst (λ (T : State). IfErr result (IsShortAt (bytes_of T s n) before.taken now.taken)) here.state (short_in here.core here.keeps here.told (is_kept here.core.state s n) refl);
 }
   where
     done : (r : Result Answer Fault) → IfOk r (λ a. (bytes loads : ℕ) × (a ≡ Restored s n bytes loads)) → IfOk r (λ a. is_refused a ≡ false)
@@ -257,6 +258,21 @@ restores v x before now s n slots result core range exact still gone = record {
         let k = version_there K.state s n keeps.core.state kept in
         kept_written v x before now s n slots K keeps told k.0 k.1 result gone
     written_in K keeps told false kept = not_kept_written v x before now s n slots K keeps told result (fault.NotKept s n (floor_of K.state s) (latest_of K.state s)) (exact K keeps kept) (still K keeps kept).1
+
+    short_at : (K : Core) → (IsSome v.told.blobs → (k : KeptVersion) → version_of K.state s n ≡ Some k → IfErr result (IsShortAt (bytes_of K.state s n) before.taken now.taken)) → IsSome v.told.blobs → (b : Bool) → is_kept K.state s n ≡ b → Keeps v K
+        → IfErr result (IsShortAt (bytes_of K.state s n) before.taken now.taken)
+    short_at K of_kept told true kept keeps =
+        let k = version_there K.state s n keeps.core.state kept in
+        of_kept told k.0 k.1
+    short_at K of_kept told false kept keeps = subst (λ (r : Result Answer Fault). IfErr r (IsShortAt (bytes_of K.state s n) before.taken now.taken)) (sym (exact K keeps kept)) tt
+
+    short_in : (K : Core) → Keeps v K → IsSome v.told.blobs → (b : Bool) → is_kept K.state s n ≡ b → IfErr result (IsShortAt (bytes_of K.state s n) before.taken now.taken)
+    short_in K keeps told b kept = short_at K (λ tells k there. of_result result gone.short tells k there) told b kept keeps
+      where
+        of_result : (r : Result Answer Fault) → IfErr r (λ f. (IsSome v.told.blobs) → (J : Core) (k : KeptVersion) → Keeps v J → version_of J.state s n ≡ Some k → IsShortAt (bytes_of J.state s n) before.taken now.taken f) → IsSome v.told.blobs → (k : KeptVersion) → version_of K.state s n ≡ Some k
+            → IfErr r (IsShortAt (bytes_of K.state s n) before.taken now.taken)
+        of_result (Ok a) short tells k there = tt
+        of_result (Err f) short tells k there = short tells K k keeps there
 
 -- the two ends of a restore
 

@@ -2,7 +2,7 @@
 use Rattle.std.proofs.Common.{◌≡◌, ◌≢◌, inl, inr, ⊎_elim, ℕ, suc, ◌+◌, ◌<◌, ◌≤◌, true, IsTrue, List, [], ◌∷◌, ◌++◌, take, drop, length, map, Option, Some, None, Result, Ok, Err, All, refl, sym, ap, subst, ◌∙◌, arith, add-one, append_assoc}
 use Rattle.std.specs.Prelude.{IfSome, IsSome, IsSomeAnd, IsErrAnd, IfErr, OnOk}
 use Rattle.std.specs.List.{AllByRecursion}
-use Rattle.std.proofs.lemmas.List.{take-append-drop, append-nil}
+use Rattle.std.proofs.lemmas.List.{take-append-drop, append-nil, length-append}
 use Rattle.std.proofs.lemmas.List.Concat.{flat_map-append}
 use Rattle.vault_types.specs.declared.Fault.{Fault}
 use Rattle.vault_types.specs.declared.Fault.TheVariants as fault
@@ -24,6 +24,7 @@ use Rattle.blob_parts.specs.Causes.{HasCauses, IsCause}
 use Rattle.container_store.specs.Damages.{IsPayloadOf, IsPayloadDamage}
 use Rattle.keeper_catalog.specs.View.{View, Keeps}
 use Rattle.keeper_core.specs.Calls.{Lists, HasListed}
+use Rattle.script_laws.specs.Calls.{IsShortAt}
 use Rattle.commit_laws.proofs.Listing.{all_append, all_right, all_weaker, all_of, all_at, contains_of}
 use Rattle.deletion_laws.proofs.Members.{of_map, in_map}
 use Rattle.restore_assembler.specs.Copying.{Copying, wanted, IsCovered, IsWanted, HasCopied, IsTakenAt, version_bytes}
@@ -110,6 +111,18 @@ load_found bytes a b told c other h = tt
 taken_found : (bytes : List ℕ) (before now : SinkTold) (f : Fault) → IsTakenAt bytes before now f → IsFoundOf bytes f
 taken_found bytes before now (fault.Damaged kind.Recipe n (why.Whole want found)) h = h.0
 taken_found bytes before now other h = tt
+
+load_short : (bytes : List ℕ) (before now : Option (List ℕ)) (a b : ℕ) (told : Option Blobs) (c : Container) (f : Fault) → IsCause a b (IsPayloadDamage told c.table) f → IsShortAt bytes before now f
+load_short bytes before now a b told c (fault.WriteFault n) h = absurd h
+load_short bytes before now a b told c other h = tt
+
+taken_short : (bytes : List ℕ) (before now : SinkTold) (f : Fault) → IsTakenAt bytes before now f → IsShortAt bytes before.taken now.taken f
+taken_short bytes before now (fault.WriteFault n) h =
+    let parts : length (h.0 ++ h.1) ≡ length bytes = ap length h.2 in
+    let sum : length (h.0 ++ h.1) ≡ length h.0 + length h.1 = length-append h.0 h.1 in
+    let some : 0 < length h.1 = h.3 in
+    (h.0, h.4, omega arith)
+taken_short bytes before now other h = tt
 
 taken_front : (bytes : List ℕ) (before now : SinkTold) (f : Fault) → IsTakenAt bytes before now f → TakesFront before now bytes
 taken_front bytes before now (fault.WriteFault n) h = record { front = h.0; rest = h.1; parts = h.2; taken = h.4 }
@@ -211,6 +224,7 @@ module _ (v w : View) (number id : ℕ) (s : Copying) (next : wanted s ≡ Some 
         taken = copied.taken;
       };
       found = λ payloads start given copied. load_found (version_bytes payloads s.spots) v.told.faults w.told.faults v.told.blobs the.0 f (cause K the.0 pinned.keeps the.1);
+      short = λ payloads start given copied. load_short (version_bytes payloads s.spots) start.taken before.taken v.told.faults w.told.faults v.told.blobs the.0 f (cause K the.0 pinned.keeps the.1);
     }
 
     module _ (bytes : List ℕ) (wants : (payloads : ℕ → List ℕ) → AreGiven v number s.spots payloads → IsWanted payloads s bytes) where
@@ -246,6 +260,7 @@ module _ (v w : View) (number id : ℕ) (s : Copying) (next : wanted s ≡ Some 
             cause = λ J held. give_fault v w before now J.pins number s.whole f cause;
             front = λ payloads start given copied. taken_front (version_bytes payloads s.spots) start now f (taken payloads start copied (wants payloads given));
             found = λ payloads start given copied. taken_found (version_bytes payloads s.spots) start now f (taken payloads start copied (wants payloads given));
+            short = λ payloads start given copied. taken_short (version_bytes payloads s.spots) start now f (taken payloads start copied (wants payloads given));
           })
 
 -- some loads
@@ -323,6 +338,7 @@ module _ (v : View) (number : ℕ) (before : SinkTold) (s : Copying) where
         cause = λ K pinned. later_fault v w x before mid now K.pins number s.whole t.whole way.stays way.later way.whole f (at.cause K (way_pinned K pinned));
         front = λ payloads given. subst (λ (spots : List Spot). TakesFront before now (version_bytes payloads spots)) way.spots (at.front payloads before (way_given payloads given) (way.copied payloads given));
         found = λ payloads given. subst (λ (spots : List Spot). IsFoundOf (version_bytes payloads spots) f) way.spots (at.found payloads before (way_given payloads given) (way.copied payloads given));
+        short = λ payloads given. subst (λ (spots : List Spot). IsShortAt (version_bytes payloads spots) before.taken now.taken f) way.spots (at.short payloads before (way_given payloads given) (way.copied payloads given));
       }
 
     pub ends : s.done ≡ 0 → wanted t ≡ None → t.done ≡ length t.spots → All (λ step. step ≢ Serve) t.steps → ((payloads : ℕ → List ℕ) (a b : SinkTold) → HasCopied payloads a b t → Takes a.taken b.taken (version_bytes payloads t.spots)) → HasDone v w number before mid s
@@ -353,6 +369,7 @@ module _ (v : View) (number : ℕ) (before : SinkTold) (spots : List Spot) (whol
     cause = λ K pinned. tt;
     front = λ payloads given. record { front = []; rest = version_bytes payloads spots; parts = refl; taken = takes_nothing before.taken };
     found = λ payloads given. tt;
+    short = λ payloads given. tt;
   })
 
   module _ (w : View) (now : SinkTold) (s : Copying) (steps : List Step) (n : ℕ) (same : s.spots ≡ spots) (are : s.steps ≡ steps) (count : n ≡ loads steps) (least : IsLeast (requests (map (λ q. q.id) spots)) slots n) where
@@ -367,6 +384,7 @@ module _ (v : View) (number : ℕ) (before : SinkTold) (spots : List Spot) (whol
           cause = at.cause;
           front = at.front;
           found = at.found;
+          short = at.short;
         } in
         subst (λ (o : Option Whole). IsStopped v w number before now spots o (IsAtMostLeast (requests (map (λ q. q.id) spots)) slots) f) wholes
         (subst (λ (ss : List Spot). IsStopped v w number before now ss s.whole (IsAtMostLeast (requests (map (λ q. q.id) spots)) slots) f) same here)

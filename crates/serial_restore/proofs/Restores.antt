@@ -5,7 +5,7 @@ use Rattle.std.proofs.lemmas.List.{append-nil}
 use Rattle.vault_types.specs.declared.Name.{Name}
 use Rattle.vault_types.specs.Events.{Core, Pin, IsNear, pin_of, with_pins, after_pin, after_release, pins_without, containers_of}
 use Rattle.vault_types.specs.Lists.{has}
-use Rattle.vault_types.specs.Shelf.{Blobs}
+use Rattle.vault_types.specs.Shelf.{Blobs, recipe_name, blob_at}
 use Rattle.vault_types.specs.State.{KeptVersion, version_of, named}
 use Rattle.vault_types.specs.Tables.{Container, id_of}
 use Rattle.vault_traits.specs.Crash.{History, LeavesNowIfTold, LeavesOnlyIfTold}
@@ -15,6 +15,7 @@ use Rattle.deletion_laws.specs.Deleting.{pinned_ids}
 use Rattle.deletion_laws.specs.Releasing.{released_ids, IsReleased}
 use Rattle.deletion_laws.proofs.Members.{clash, or_right, of_map, in_map, filter_within}
 use Rattle.commit_laws.proofs.Listing.{itself, same_number}
+use Rattle.keeper_parts.proofs.Changing.{recipe_no_table, recipe_no_payload}
 use Rattle.keeper_catalog.specs.View.{View, Keeps}
 use Rattle.serial_restore.specs.Going.{Stays}
 use Rattle.serial_restore.specs.Restoring.{HasStayed}
@@ -88,6 +89,10 @@ none_released v K number s n k q keeps fresh released =
     subst (λ (m : ℕ). has m (map id_of K.state.containers) ≡ true) e.2 (in_map id_of K.state.containers e.0 (filter_within (λ x. has x.table.id (map (λ r. r.id) k.rows)) K.state.containers e.0 e.1)) in
     clash (has released.id (named K.state)) (subst (λ (ids : List ℕ). has released.id ids ≡ true) keeps.core.state.containers f) b
 
+-- no recipe is a name that a release leaves
+recipe_unreleased : (J : Core) (number t m : ℕ) → IsReleased J number (recipe_name t m) → ⊥
+recipe_unreleased J number t m released = ⊎_elim (λ table. recipe_no_table t m released.id table) (λ payload. recipe_no_payload t m released.id payload) released.is
+
 -- what stays over a pin, a copy and a release
 
 module _ (v u w x : View) (K : Core) (keeps : Keeps v K) (s n no : ℕ) (fresh : has no (numbers v.pins) ≡ false) where
@@ -96,15 +101,19 @@ module _ (v u w x : View) (K : Core) (keeps : Keeps v K) (s n no : ℕ) (fresh :
 
   module _ (memo : u.memo ≡ v.memo) (stays : Stays u w)
       (releases : (J : Core) → Keeps w J → Keeps x (after_release no x.memo.strays J))
-      (within : (J : Core) → Keeps w J → (q : Name) → Contains x.memo.strays q → Contains w.memo.strays q ⊎ IsReleased J no q) where
-    pub stayed : (pin : Pin) × (pin.number ≡ no) × Keeps u (with_pins (K.pins ++ pin ∷ []) K.strays K)
+      (within : (J : Core) → Keeps w J → (q : Name) → Contains x.memo.strays q → Contains w.memo.strays q ⊎ IsReleased J no q)
+      (others : (J : Core) → Keeps w J → (q : Name) → (IsReleased J no q → ⊥) → blob_at x.told.blobs q ≡ blob_at w.told.blobs q) where
+    pub stayed : u.told.blobs ≡ v.told.blobs → (pin : Pin) × (pin.number ≡ no) × Keeps u (with_pins (K.pins ++ pin ∷ []) K.strays K)
         → (IsSome v.told.blobs → (k : KeptVersion) → version_of K.state s n ≡ Some k → Keeps u (after_pin no s n k K)) → HasStayed v x K s n
     unfolding fresh_pins
-    stayed pinned ok = record {
+    stayed same pinned ok = record {
       strays = x.memo.strays;
       keeps = subst (λ (pins : List Pin). Keeps x (with_pins pins x.memo.strays K)) (pins_gone no pinned.0 pinned.1 K.pins fresh_pins)
           (releases (with_pins (K.pins ++ pinned.0 ∷ []) K.strays K) (stays.keeps (with_pins (K.pins ++ pinned.0 ∷ []) K.strays K) pinned.2));
       within = λ tells kept q there. at (version_of K.state s n) refl kept tells q there;
+      recipes = λ t m.
+          let J : Core = with_pins (K.pins ++ pinned.0 ∷ []) K.strays K in
+          others J (stays.keeps J pinned.2) (recipe_name t m) (recipe_unreleased J no t m) ∙ ap (λ (b : Option Blobs). blob_at b (recipe_name t m)) (stays.blobs ∙ same);
     }
       where
         at : (o : Option KeptVersion) → version_of K.state s n ≡ o → IsSome o → IsSome v.told.blobs → (q : Name) → Contains x.memo.strays q → Contains K.strays q
@@ -124,11 +133,12 @@ module _ (v u w x : View) (K : Core) (keeps : Keeps v K) (s n no : ℕ) (fresh :
         (subst (λ (h : Option History). LeavesNowIfTold h (IsNear K.state K.other)) (sym e) now))
 
 -- a pin that was refused
-pub stayed_still : (v x : View) (K : Core) (s n : ℕ) → Keeps v K → ((J : Core) → Keeps v J → Keeps x J) → HasStayed v x K s n
-stayed_still v x K s n keeps stay = record {
+pub stayed_still : (v x : View) (K : Core) (s n : ℕ) → x.told.blobs ≡ v.told.blobs → Keeps v K → ((J : Core) → Keeps v J → Keeps x J) → HasStayed v x K s n
+stayed_still v x K s n same keeps stay = record {
   strays = K.strays;
   keeps = stay K keeps;
   within = λ tells kept q there. there;
+  recipes = λ t m. ap (λ (b : Option Blobs). blob_at b (recipe_name t m)) same;
 }
 
 pub moment_still : (v x : View) (K : Core) → x.told.history ≡ v.told.history → LeavesNowIfTold v.told.history (IsNear K.state K.other) → LeavesOnlyIfTold v.told.history x.told.history (IsNear K.state K.other)

@@ -33,6 +33,7 @@ use Rattle.commit_laws.proofs.Unique.{plain_of, kept_rules, kept_number, without
 use Rattle.deletion_laws.proofs.Members.{filter_contains, filter_within, first_or_rest}
 use Rattle.keeper_core.specs.Calls.{Lists, HasListed, IsPinned, IsWholeOf}
 use Rattle.restore_assembler.specs.Copying.{version_bytes}
+use Rattle.script_laws.specs.Calls.{IsShortAt}
 use Rattle.serial_restore.specs.Going.{HasPinned, ArePayloads, AreGiven, IsFull, HasSum, IsSummed, IsFoundOf, TakesFront, IsCopied, IsStopped, IsAtMostLeast}
 use Rattle.serial_restore.specs.Restoring.{whole_of, IsRestored, IsCut}
 use Rattle.serial_restore.proofs.Chunks.{fitting, payload_at, fitting_whole, spots_bytes, rows_len, HasWhole}
@@ -119,13 +120,17 @@ module _ (v : View) (K : Core) (keeps : Keeps v K) (s n no : ℕ) (k : KeptVersi
       sum_is below told is_whole (inl none) = empty_sum below none
       sum_is below told (inl some) (inr summed) =
           let h : HasSum (payload_at K.state.containers) spots (option_map (whole_of s n) (Some k.sum)) =
-          subst (λ (o : Option Fp). HasSum (payload_at K.state.containers) spots (option_map (whole_of s n) o)) some (summed (payload_at K.state.containers) payloads_given) in
+          subst (λ (o : Option Fp). HasSum (payload_at K.state.containers) spots (option_map (whole_of s n) o)) some.0 (summed (payload_at K.state.containers) payloads_given) in
           ap fp (sym copied_bytes) ∙ h
       sum_is below told (inr first) (inr summed) = sym (first_sum K v keeps s n k below kept v.told.blobs told keeps.held first.1)
 
       -- where the sum was wrong, it is that of the version's bytes
       pub found_in : (whole : Option Whole) (IsFew : ℕ → Type 0) (w : View) (before now : SinkTold) (f : Fault) → IsStopped u w no before now spots whole IsFew f → IsFoundOf (bytes_of K.state s n) f
       found_in whole IsFew w before now f stopped = subst (λ (bytes : List ℕ). IsFoundOf bytes f) copied_bytes (stopped.found (payload_at K.state.containers) payloads_given)
+
+      -- where the sink failed, it has taken less than the version's bytes
+      pub short_in : (whole : Option Whole) (IsFew : ℕ → Type 0) (w : View) (before now : SinkTold) (f : Fault) → IsStopped u w no before now spots whole IsFew f → IsShortAt (bytes_of K.state s n) before.taken now.taken f
+      short_in whole IsFew w before now f stopped = subst (λ (bytes : List ℕ). IsShortAt bytes before.taken now.taken f) copied_bytes (stopped.short (payload_at K.state.containers) payloads_given)
 
       -- what is taken, with the gets of the version's pin and release
       module _ (w x : View) (before now : SinkTold) (slots : ℕ) (gets_before : u.told.gets ≡ v.told.gets) (gets_behind : x.told.gets ≡ w.told.gets) where

@@ -22,6 +22,7 @@ use Rattle.vault_traits.specs.Told.{SinkTold, Takes}
 use Rattle.container_store.specs.Damages.{IsPayloadDamage}
 use Rattle.keeper_catalog.specs.View.{View, Keeps}
 use Rattle.keeper_core.specs.Calls.{Lists, HasListed}
+use Rattle.script_laws.specs.Calls.{IsShortAt}
 use Rattle.restore_assembler.specs.Copying.{Copying, wanted, HasCopied, version_bytes}
 
 -- loads leave of a keeper all but the counts of faults and of gets
@@ -129,6 +130,7 @@ pub record StopsAt (v w : View) (number : ℕ) (before now : SinkTold) (s : Copy
   pub cause : (K : Core) → HasPinned v number s.spots K → IsCopyFault v w before now K.pins number s.whole f
   pub front : (payloads : ℕ → List ℕ) (start : SinkTold) → AreGiven v number s.spots payloads → HasCopied payloads start before s → TakesFront start now (version_bytes payloads s.spots)
   pub found : (payloads : ℕ → List ℕ) (start : SinkTold) → AreGiven v number s.spots payloads → HasCopied payloads start before s → IsFoundOf (version_bytes payloads s.spots) f
+  pub short : (payloads : ℕ → List ℕ) (start : SinkTold) → AreGiven v number s.spots payloads → HasCopied payloads start before s → IsShortAt (version_bytes payloads s.spots) start.taken now.taken f
 
 -- some loads: the steps that are done, each load of them counted once, and what the sink has then taken
 
@@ -179,6 +181,7 @@ pub record IsStopped (v w : View) (number : ℕ) (before now : SinkTold) (spots 
   pub cause : (K : Core) → HasPinned v number spots K → IsCopyFault v w before now K.pins number whole f
   pub front : (payloads : ℕ → List ℕ) → AreGiven v number spots payloads → TakesFront before now (version_bytes payloads spots)
   pub found : (payloads : ℕ → List ℕ) → AreGiven v number spots payloads → IsFoundOf (version_bytes payloads spots) f
+  pub short : (payloads : ℕ → List ℕ) → AreGiven v number spots payloads → IsShortAt (version_bytes payloads spots) before.taken now.taken f
 
 -- not more than in any plan that serves the requests
 abbrev pub IsAtMostLeast : List ℕ → ℕ → ℕ → Type 0

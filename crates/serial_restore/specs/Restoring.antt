@@ -15,7 +15,7 @@ use Rattle.vault_types.specs.Bytes.{bytes_of}
 use Rattle.vault_types.specs.Events.{Core, IsNear, containers_of, with_pins}
 use Rattle.vault_types.specs.Names.{fp}
 use Rattle.vault_types.specs.Plans.{requests, IsLeast}
-use Rattle.vault_types.specs.Shelf.{Blobs, recipe_name}
+use Rattle.vault_types.specs.Shelf.{Blobs, recipe_name, blob_at}
 use Rattle.vault_types.specs.State.{State, KeptVersion, floor_of, latest_of, is_kept, version_of}
 use Rattle.vault_types.specs.Tables.{Container}
 use Rattle.vault_traits.specs.Counts.{counted_up, Rose}
@@ -24,6 +24,7 @@ use Rattle.vault_traits.specs.Told.{SinkTold, Takes}
 use Rattle.container_store.specs.Damages.{IsPayloadDamage}
 use Rattle.keeper_catalog.specs.View.{View, Keeps}
 use Rattle.keeper_core.specs.Calls.{IsPinDamage}
+use Rattle.script_laws.specs.Calls.{IsShortAt}
 use Rattle.serial_restore.specs.Going.{TakesFront, IsAtMostLeast}
 
 -- the sum that a version should have, by the number of its recipe
@@ -55,11 +56,12 @@ IsRestoreFault v w before now S s n (fault.Damaged k i why) =
 IsRestoreFault v w before now S s n fault.Memory = Unit {0}
 IsRestoreFault v w before now S s n other = ⊥
 
--- all is as it was, and nothing more is pinned; names of the store may have ceased to be strays
+-- all is as it was, and nothing more is pinned; names of the store may have ceased to be strays. Each recipe has its bytes
 pub record HasStayed (v w : View) (K : Core) (s n : ℕ) : Type 0 where
   pub strays : List Name
   pub keeps : Keeps w (with_pins K.pins strays K)
   pub within : IsSome v.told.blobs → IsSome (version_of K.state s n) → (q : Name) → Contains strays q → Contains K.strays q
+  pub recipes : (t m : ℕ) → blob_at w.told.blobs (recipe_name t m) ≡ blob_at v.told.blobs (recipe_name t m)
 
 -- a version is restored: its bytes, which have its sum, are taken
 pub record IsRestored (v w : View) (before now : SinkTold) (K : Core) (s n : ℕ) (k : KeptVersion) (slots : ℕ) (answer : Answer) : Type 0 where
@@ -98,3 +100,4 @@ pub record HasGone (v x : View) (before now : SinkTold) (s n slots : ℕ) (resul
   pub cause : IfErr result (λ f. (K : Core) → Keeps v K → IsRestoreFault v x before now K.state s n f)
   pub ok : IfOk result (λ answer. WhereTold v s n (λ K k. IsRestored v x before now K s n k slots answer))
   pub err : OnErr result (WhereTold v s n (λ K k. IsCut v x before now K s n k slots))
+  pub short : IfErr result (λ f. WhereTold v s n (λ K k. IsShortAt (bytes_of K.state s n) before.taken now.taken f))

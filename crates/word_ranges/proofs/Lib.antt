@@ -1,3 +1,4 @@
 pub mod Ranges
 pub mod Commands
 pub mod Lines
+pub mod Fills

@@ -1,10 +1,11 @@
 //! What the grammar of words and scripts lets through lies in its ranges: laws that a call cites which reads words.
 #![tactic(auto)]
 
-ghost use Rattle.std.specs.Prelude.{◌≡◌, ℕ, List, Some, Ok};
+ghost use Rattle.std.specs.Prelude.{◌≡◌, ◌≤◌, ℕ, List, Some, Ok};
 ghost use Rattle.std.specs.List.{AllByRecursion};
 ghost use Rattle.vault_types.specs.declared.Command.{Command};
 ghost use Rattle.vault_types.specs.declared.Line.{Line};
+ghost use Rattle.vault_types.specs.Generator.{fill_lines};
 ghost use Rattle.vault_types.specs.Words.{command_of, script_of};
 ghost use Rattle.script_laws.specs.Outputs.{AreApartLines};
 ghost use Rattle.word_ranges.specs.Ranges.{IsCommandInRange, IsLineInRange};
@@ -18,4 +19,10 @@ pub fn commands_are_in_range()
 pub fn scripts_are_in_range()
     ensures ranges { (text : List ℕ) (lines : List Line) → script_of text ≡ Ok lines → AllByRecursion IsLineInRange lines }
     ensures apart { (text : List ℕ) (lines : List Line) → script_of text ≡ Ok lines → AreApartLines lines }
+{}
+
+/// So they are of the script of `fill`.
+pub fn fill_scripts_are_in_range()
+    ensures ranges { (versions : ℕ) → AllByRecursion IsLineInRange (fill_lines versions) }
+    ensures apart { (versions : ℕ) → versions ≤ 64 → AreApartLines (fill_lines versions) }
 {}

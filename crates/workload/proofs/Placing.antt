@@ -150,6 +150,17 @@ version_file seed v places name = by (place_at places name)
     by None is = cc
     by (Some p) is = ap (λ (o : Option ℕ). Some (option_map_or (λ u. version_bytes seed u) o p.bytes)) is
 
+-- a name that gives no version has what was written
+pub no_version_file : (seed : ℕ) (places : List Place) (name : List ℕ) → None ≡ version_at places name → output_at places name ≡ file_at seed places name
+no_version_file seed places name = by (place_at places name)
+  where
+    by : (p : Option Place) → None ≡ option_map_or (λ q. q.version) p None
+        → option_map_or (λ q. option_map_or (λ v. None) q.version (Some q.bytes)) p None ≡ option_map (λ q. bytes_of_place seed q) p
+    by None is = refl
+    by (Some p) is =
+        ap (λ (o : Option ℕ). option_map_or (λ v. None) o (Some p.bytes)) (sym is)
+        ∙ ap (λ (o : Option ℕ). Some (option_map_or (λ u. version_bytes seed u) o p.bytes)) is
+
 -- ---- of the calls
 
 pub version_found : (ps : List Place) (name : List ℕ) (i : ℕ) (p : Place) → p ≡ get_or ps i p → IsFirst ps name i → version_at ps name ≡ p.version
@@ -193,4 +204,4 @@ all_sources before new none is = is ∙ ap (λ (l : List Place). l ++ sources_to
 
 -- the places where nothing was written
 abbrev pub filling : ℕ → List Place → Filling
-filling seed places = record { seed = seed; places = places; faults = 0; write_faults = 0 }
+filling seed places = record { seed = seed; places = places; write_faults = 0 }

@@ -4,13 +4,13 @@ use Rattle.std.specs.Option.{option_map_or}
 use Rattle.std.specs.List.{range_with_len}
 use Rattle.std.specs.Str.{bytes_eq}
 use Rattle.vault_types.specs.Generator.{generated}
+use Rattle.vault_traits.specs.Told.{PlacesTold}
 use Rattle.workload.specs.declared.place.Place.{Place}
 
--- of the places: the seed, what is under each name, and how often an opening and a write failed
+-- of the places: the seed, what is under each name, and how often a write failed
 pub record Filling : Type 0 where
   pub seed : ℕ
   pub places : List Place
-  pub faults : ℕ
   pub write_faults : ℕ
 
 abbrev pub source_name : ℕ → List ℕ
@@ -51,6 +51,10 @@ bytes_of_place seed p = option_map_or (λ v. version_bytes seed v) p.version p.b
 
 abbrev pub file_at : ℕ → List Place → List ℕ → Option (List ℕ)
 file_at seed places name = option_map (λ p. bytes_of_place seed p) (place_at places name)
+
+-- what they tell: no opening and no reader fails
+abbrev pub told_of : Filling → PlacesTold
+told_of p = record { files = Some (file_at p.seed p.places); faults = 0; read_faults = 0; write_faults = p.write_faults }
 
 -- the name has these bytes now, and each other what it had
 abbrev pub IsPlaced : List Place → List Place → List ℕ → List ℕ → Type 0

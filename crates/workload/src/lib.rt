@@ -9,9 +9,12 @@ mod listing;
 mod numbers;
 mod place;
 mod places;
+mod sink;
+mod sums;
 
 pub use generated::Generated;
 pub use places::FillPlaces;
+pub use sink::FillSink;
 
 #[cfg(test)]
 mod tests;

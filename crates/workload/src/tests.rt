@@ -37,16 +37,16 @@ fn sources_open_by_their_names(rt: HostRuntime) -> Result<(), Fail> {
     assert!(rt;
         matches!(
             &places.open_source(rt.alloc(), "gen-65"),
-            Err(Refused::Failed)
+            Err(Refused::Memory)
         )
     );
     assert!(rt;
         matches!(
             &places.open_source(rt.alloc(), "gen-01"),
-            Err(Refused::Failed)
+            Err(Refused::Memory)
         )
     );
-    assert_eq!(rt; places.faults(), 2);
+    assert_eq!(rt; places.faults(), 0);
     Ok(())
 }
 

@@ -4,6 +4,8 @@ use Rattle.vault_types.specs.declared.Command.{Command}
 use Rattle.vault_types.specs.declared.Command.TheVariants as command
 use Rattle.run_laws.specs.World.{World}
 use Rattle.run_laws.specs.Courses.{RunsDelete, RunsRestore, RunsShow}
+use Rattle.run_laws.specs.Filling.{RunsFill}
+use Rattle.run_laws.specs.Migrating.{RunsMigrate}
 use Rattle.word_ranges.proofs.Commands.{of_words}
 use Rattle.command_runner.proofs.Runs.{batch, one_line, unbuilt}
 use Rattle.command_runner.proofs.run.run_command.Goals as goal
@@ -57,3 +59,26 @@ returns-in-Ok-Batch g c =
     let now : World = record { shelf = g.S.Shelf.told c.run_batch.result.shelf; places = g.P.Places.told c.run_batch.new.places; input = g.I.Source.told c.run_batch.result.input; out = g.O.Sink.told c.run_batch.result.out; report = g.R.Sink.told c.run_batch.new.report } in
     let r = c.run_batch.result in
     batch (map string_bytes c.args.words.now) c.args.limits.now before now r.answers.items r.fault r.status x.field-0-0 x.field-0-1 x.field-0-2 (x.ensures.ok ∙ ap (λ (d : Command). Some d) x.field-0-is) c.run_batch.ensures
+
+pub run_fill-requires-clause-few : goal.run_fill-requires-clause-few
+run_fill-requires-clause-few g c κs within =
+    let x = c.in-Ok-Fill in
+    (of_words (map string_bytes c.args.words.now) (command.Fill x.seed x.versions x.field-0-2 x.field-0-3 x.field-0-4) (x.ensures.ok ∙ ap (λ (d : Command). Some d) x.field-0-is)).1
+
+pub returns-in-Ok-Fill : goal.returns-in-Ok-Fill
+returns-in-Ok-Fill g c =
+    let x = c.in-Ok-Fill in
+    let before : World = record { shelf = g.S.Shelf.told c.args.shelf; places = g.P.Places.told c.args.places.now; input = g.I.Source.told c.args.input; out = g.O.Sink.told c.args.out; report = g.R.Sink.told c.args.report.now } in
+    let now : World = record { shelf = g.S.Shelf.told c.run_fill.result.shelf; places = g.P.Places.told c.args.places.now; input = g.I.Source.told c.run_fill.result.input; out = g.O.Sink.told c.run_fill.result.out; report = g.R.Sink.told c.run_fill.new.report } in
+    let r = c.run_fill.result in
+    one_line (map string_bytes c.args.words.now) c.args.limits.now before now r.answers.items (command.Fill x.seed x.versions x.field-0-2 x.field-0-3 x.field-0-4) r.fault r.status (RunsFill x.seed x.versions c.args.limits.now)
+    (x.ensures.ok ∙ ap (λ (d : Command). Some d) x.field-0-is) tt (λ ran. ran) c.run_fill.ensures
+
+pub returns-in-Ok-Migrate : goal.returns-in-Ok-Migrate
+returns-in-Ok-Migrate g c =
+    let x = c.in-Ok-Migrate in
+    let before : World = record { shelf = g.S.Shelf.told c.args.shelf; places = g.P.Places.told c.args.places.now; input = g.I.Source.told c.args.input; out = g.O.Sink.told c.args.out; report = g.R.Sink.told c.args.report.now } in
+    let now : World = record { shelf = g.S.Shelf.told c.run_migrate.result.shelf; places = g.P.Places.told c.args.places.now; input = g.I.Source.told c.run_migrate.result.input; out = g.O.Sink.told c.run_migrate.result.out; report = g.R.Sink.told c.run_migrate.new.report } in
+    let r = c.run_migrate.result in
+    one_line (map string_bytes c.args.words.now) c.args.limits.now before now r.answers.items command.Migrate r.fault r.status RunsMigrate
+    (x.ensures.ok ∙ ap (λ (d : Command). Some d) x.field-0-is) tt (λ ran. ran) c.run_migrate.ensures

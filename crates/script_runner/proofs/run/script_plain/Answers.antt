@@ -2,6 +2,7 @@ use Rattle.std.proofs.Common.{rules, ◌≡◌, ◌≤◌, ◌<◌, ℕ, List, [
 use Rattle.std.specs.Prelude.{vec_len, vec_capacity}
 use Rattle.script_laws.proofs.Chained.{Chained, chain_begins, chain_goes_on, chain_ends}
 use Rattle.script_laws.proofs.Composed.{runs_of_chain}
+use Rattle.script_laws.proofs.Rooms.{steps_of, rooms_of_chain}
 use Rattle.script_runner.proofs.run.script_plain.Goals as goal
 
 pub loop-line-init : goal.loop-line-init
@@ -17,7 +18,7 @@ unreachable-requires g c = omega (arith, c.in-Err.ensures.full, c.loop-line.inva
 
 pub loop-line-preserved : goal.loop-line-preserved
 loop-line-preserved g c = record {
-  chained = rw c.in-Ok-push.ensures.items (chain_goes_on _ _ _ _ _ _ _ c.line-item.result c.one_line-answer.result c.loop-line-test.true c.line-item.is c.loop-line.invariant.chained c.one_line-answer.ensures);
+  chained = rw c.in-Ok-push.ensures.items (chain_goes_on _ _ _ _ _ _ _ c.line-item.result c.one_line-answer.result c.loop-line-test.true c.line-item.is c.loop-line.invariant.chained (record { step = c.one_line-answer.ensures.steps; needs = c.one_line-answer.ensures.room }));
   count = rw c.in-Ok-push.ensures.len (omega (arith, c.loop-line.invariant.count));
   room = omega (arith, c.push.ensures.capacity, c.loop-line.invariant.room);
   within = omega (arith, c.loop-line-test.true);
@@ -26,4 +27,10 @@ loop-line-preserved g c = record {
 pub returns-clause-runs : goal.returns-clause-runs
 returns-clause-runs g c =
     let all : c.loop-line.line-index ≡ length c.args.lines.now = omega (arith, c.loop-line.invariant.within, c.loop-line-test.false) in
-    runs_of_chain g.K.StateKeeper.shelf g.K.StateKeeper.keeps g.K.StateKeeper.strays g.K.StateKeeper.keeps_is g.K.StateKeeper.strays_known _ _ _ _ _ c.requires.apart (chain_ends _ _ _ _ _ _ all c.loop-line.invariant.chained)
+    runs_of_chain g.K.StateKeeper.shelf g.K.StateKeeper.keeps g.K.StateKeeper.strays g.K.StateKeeper.keeps_is g.K.StateKeeper.strays_known _ _ _ _ _ c.requires.apart
+    (steps_of g.K.StateKeeper.shelf g.K.StateKeeper.keeps g.K.StateKeeper.strays c.args.limits.now g.P.Places.room _ _ _ _ (chain_ends _ _ _ _ _ _ all c.loop-line.invariant.chained))
+
+pub returns-clause-room : goal.returns-clause-room
+returns-clause-room g c S sources keep fed told =
+    let all : c.loop-line.line-index ≡ length c.args.lines.now = omega (arith, c.loop-line.invariant.within, c.loop-line-test.false) in
+    rooms_of_chain g.K.StateKeeper.shelf g.K.StateKeeper.keeps g.K.StateKeeper.strays c.args.limits.now g.P.Places.room sources S _ _ _ _ keep fed told c.requires.apart (chain_ends _ _ _ _ _ _ all c.loop-line.invariant.chained)

@@ -1,4 +1,5 @@
-use Rattle.std.proofs.Common.{sym, subst}
+use Rattle.std.proofs.Common.{◌≡◌, sym, subst}
+use Rattle.vault_types.specs.Shelf.{blob_at}
 use Rattle.vault_types.specs.Events.{after_release}
 use Rattle.keeper_catalog.specs.View.{View, Keeps}
 use Rattle.keeper_core.proofs.Removing.{releasing_of, released}
@@ -15,3 +16,8 @@ returns-clause-releases g c K keeps =
     let k = subst (λ (v : View). Keeps v K) (sym c.self.view_is) keeps in
     let r = releasing_of _ K k in
     released _ K k c.args.no _ _ _ (c.release_pin.ensures.memo K r) (c.release_pin.ensures.pins K r) (c.release_pin.ensures.held K r k.held)
+
+pub returns-clause-others : goal.returns-clause-others
+returns-clause-others g c K keeps n none =
+    let k = subst (λ (v : View). Keeps v K) (sym c.self.view_is) keeps in
+    subst (λ (v : View). blob_at (g.S.Shelf.told c.release_pin.new.shelf).blobs n ≡ blob_at v.told.blobs n) c.self.view_is (c.release_pin.ensures.others K (releasing_of _ K k) n none)

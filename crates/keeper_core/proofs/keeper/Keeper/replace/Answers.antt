@@ -1,14 +1,17 @@
-use Rattle.std.proofs.Common.{◌≤◌, ◌<◌, inl, List, Option, None, refl, sym, subst, ap, ◌∙◌, arith, length}
+use Rattle.std.proofs.Common.{◌≡◌, ◌≤◌, ◌<◌, ◌⊎◌, inl, inr, ⊎_elim, Some, List, Option, None, refl, sym, subst, ap, ◌∙◌, arith, length}
 use Rattle.std.specs.Prelude.{IsSome}
 use Rattle.vault_types.specs.declared.Pending.TheVariants.{Not}
 use Rattle.vault_types.specs.declared.Recipe.{Recipe}
-use Rattle.vault_types.specs.Shelf.{Stands}
+use Rattle.vault_types.specs.State.{recipe_of}
+use Rattle.vault_types.specs.Blobs.{recipe_bytes_2}
+use Rattle.vault_types.specs.Shelf.{Blobs, Stands, recipe_name, blob_at}
 use Rattle.vault_types.specs.Events.{Core, IsNear, Held, after_mend, after_refused}
 use Rattle.vault_traits.specs.Crash.{History, LeavesNowIfTold, LeavesOnlyIfTold}
 use Rattle.vault_traits.proofs.Moments.{then, more}
 use Rattle.recipe_store.specs.Damages.{IsRecipeDamage}
 use Rattle.keeper_parts.specs.Parts.{without_other}
-use Rattle.keeper_parts.proofs.Changing.{told_same, told_more, near_alone}
+use Rattle.keeper_parts.proofs.Changing.{told_same, told_more, near_alone, version_high}
+use Rattle.keeper_parts.proofs.Telling.{tells_same}
 use Rattle.keeper_catalog.specs.declared.SetInfo.{SetInfo}
 use Rattle.keeper_catalog.specs.View.{View, Keeps}
 use Rattle.keeper_jobs.specs.Jobs.{Sees}
@@ -16,7 +19,7 @@ use Rattle.keeper_jobs.proofs.Seeing.{alone, not_failed}
 use Rattle.keeper_open.proofs.Gathering.{causes_again}
 use Rattle.keeper_core.proofs.Keeping.{sees_of, mended}
 use Rattle.keeper_core.proofs.Removing.{mended_now}
-use Rattle.keeper_core.proofs.Replacings.{version_there, damage_before, whole_rules, of_state, says, spelled, unmended, refused, refused_keeps, waits_why, near_wider, err_any}
+use Rattle.keeper_core.proofs.Replacings.{version_there, damage_before, whole_rules, of_state, says, spelled, unmended, refused, refused_keeps, waits_why, near_wider, err_any, others_stay, own_or_second, told_put}
 use Rattle.keeper_core.proofs.keeper.Keeper.replace.Goals as goal
 
 pub replace_recipe-requires : goal.replace_recipe-requires
@@ -165,3 +168,85 @@ returns-clause-acknowledged g c K keeps =
     let read = told_same (λ m. Held m (without_other K)) _ _ c.get_recipe.ensures.kept.blobs held in
     let of = of_state _ K k c.args.set c.args.version below (c.requires.kept K keeps) c.args.whole (λ some w at. c.requires.whole (subst (λ (v : View). IsSome v.told.blobs) c.self.view_is some) K w keeps at) (g.S.Shelf.told c.mend_for.new.shelf) c.mend_for.new.pending c.in_ok-mend_for.ensures.over (λ J s. c.mend_for.ensures.held J (subst (λ (l : List SetInfo). Sees l c.self.inside.pending J) (sym c.deref.ensures.value) s)) held c.in_ok-recipe.recipe c.with_whole-recipe.result c.in_ok-recipe.ensures.found c.with_whole-recipe.ensures _ c.get_recipe.ensures.kept.blobs in
     c.in_ok-replace_recipe.ensures.acknowledged K.state of (told_more (λ m. Held m (without_other K)) (λ m. Stands m K.state) _ (λ m h. near_alone K.state m h.near) read)
+
+pub returns-in_err-mend_for-clause-others : goal.returns-in_err-mend_for-clause-others
+returns-in_err-mend_for-clause-others g c K keeps s v low apart =
+    let k = subst (λ (v : View). Keeps v K) (sym c.self.view_is) keeps in
+    let sees = subst (λ (l : List SetInfo). Sees l c.self.inside.pending K) (sym c.deref.ensures.value) (sees_of _ K k) in
+    subst (λ (u : View). blob_at (g.S.Shelf.told c.mend_for.new.shelf).blobs (recipe_name s v) ≡ blob_at u.told.blobs (recipe_name s v)) c.self.view_is (c.mend_for.ensures.recipes K sees s v low)
+
+pub returns-in_err-recipe-clause-others : goal.returns-in_err-recipe-clause-others
+returns-in_err-recipe-clause-others g c K keeps s v low apart =
+    let k = subst (λ (v : View). Keeps v K) (sym c.self.view_is) keeps in
+    let sees = subst (λ (l : List SetInfo). Sees l c.self.inside.pending K) (sym c.deref.ensures.value) (sees_of _ K k) in
+    subst (λ (u : View). blob_at (g.S.Shelf.told c.get_recipe.new.shelf).blobs (recipe_name s v) ≡ blob_at u.told.blobs (recipe_name s v)) c.self.view_is (ap (λ (t : Option Blobs). blob_at t (recipe_name s v)) c.get_recipe.ensures.kept.blobs ∙ c.mend_for.ensures.recipes K sees s v low)
+
+pub returns-in_err-replace_recipe-clause-others : goal.returns-in_err-replace_recipe-clause-others
+returns-in_err-replace_recipe-clause-others g c K keeps s v low apart =
+    let k = subst (λ (v : View). Keeps v K) (sym c.self.view_is) keeps in
+    let sees = subst (λ (l : List SetInfo). Sees l c.self.inside.pending K) (sym c.deref.ensures.value) (sees_of _ K k) in
+    let set = ap (λ (p : Recipe). p.set) c.with_whole-recipe.ensures ∙ c.in_ok-recipe.ensures.found.2.set in
+    let number = ap (λ (p : Recipe). p.version) c.with_whole-recipe.ensures ∙ c.in_ok-recipe.ensures.found.2.number in
+    subst (λ (u : View). blob_at (g.S.Shelf.told c.replace_recipe.new.shelf).blobs (recipe_name s v) ≡ blob_at u.told.blobs (recipe_name s v)) c.self.view_is (others_stay c.args.set c.args.version s v c.with_whole-recipe.result _ _ set number apart c.replace_recipe.ensures.at_most ∙ ap (λ (t : Option Blobs). blob_at t (recipe_name s v)) c.get_recipe.ensures.kept.blobs ∙ c.mend_for.ensures.recipes K sees s v low)
+
+pub returns-clause-others : goal.returns-clause-others
+returns-clause-others g c K keeps s v low apart =
+    let k = subst (λ (v : View). Keeps v K) (sym c.self.view_is) keeps in
+    let sees = subst (λ (l : List SetInfo). Sees l c.self.inside.pending K) (sym c.deref.ensures.value) (sees_of _ K k) in
+    let set = ap (λ (p : Recipe). p.set) c.with_whole-recipe.ensures ∙ c.in_ok-recipe.ensures.found.2.set in
+    let number = ap (λ (p : Recipe). p.version) c.with_whole-recipe.ensures ∙ c.in_ok-recipe.ensures.found.2.number in
+    subst (λ (u : View). blob_at (g.S.Shelf.told c.replace_recipe.new.shelf).blobs (recipe_name s v) ≡ blob_at u.told.blobs (recipe_name s v)) c.self.view_is (others_stay c.args.set c.args.version s v c.with_whole-recipe.result _ _ set number apart c.replace_recipe.ensures.at_most ∙ ap (λ (t : Option Blobs). blob_at t (recipe_name s v)) c.get_recipe.ensures.kept.blobs ∙ c.mend_for.ensures.recipes K sees s v low)
+
+pub returns-in_err-mend_for-clause-own : goal.returns-in_err-mend_for-clause-own
+returns-in_err-mend_for-clause-own g c K kv keeps at =
+    let k = subst (λ (v : View). Keeps v K) (sym c.self.view_is) keeps in
+    let sees = subst (λ (l : List SetInfo). Sees l c.self.inside.pending K) (sym c.deref.ensures.value) (sees_of _ K k) in
+    inl (subst (λ (u : View). blob_at (g.S.Shelf.told c.mend_for.new.shelf).blobs (recipe_name c.args.set c.args.version) ≡ blob_at u.told.blobs (recipe_name c.args.set c.args.version)) c.self.view_is (c.mend_for.ensures.recipes K sees c.args.set c.args.version (version_high K.state c.args.set c.args.version kv at)))
+
+pub returns-in_err-recipe-clause-own : goal.returns-in_err-recipe-clause-own
+returns-in_err-recipe-clause-own g c K kv keeps at =
+    let k = subst (λ (v : View). Keeps v K) (sym c.self.view_is) keeps in
+    let sees = subst (λ (l : List SetInfo). Sees l c.self.inside.pending K) (sym c.deref.ensures.value) (sees_of _ K k) in
+    inl (subst (λ (u : View). blob_at (g.S.Shelf.told c.get_recipe.new.shelf).blobs (recipe_name c.args.set c.args.version) ≡ blob_at u.told.blobs (recipe_name c.args.set c.args.version)) c.self.view_is (ap (λ (t : Option Blobs). blob_at t (recipe_name c.args.set c.args.version)) c.get_recipe.ensures.kept.blobs ∙ c.mend_for.ensures.recipes K sees c.args.set c.args.version (version_high K.state c.args.set c.args.version kv at)))
+
+pub returns-in_err-replace_recipe-clause-own : goal.returns-in_err-replace_recipe-clause-own
+returns-in_err-replace_recipe-clause-own g c K kv keeps at =
+    let k = subst (λ (v : View). Keeps v K) (sym c.self.view_is) keeps in
+    let sees = subst (λ (l : List SetInfo). Sees l c.self.inside.pending K) (sym c.deref.ensures.value) (sees_of _ K k) in
+    let held = c.in_ok-mend_for.ensures.mended K sees k.held in
+    let below : c.args.set < 256 = omega (arith, c.ranges.set.fits) in
+    let says_all = says _ K k c.args.set c.args.version below (c.requires.kept K keeps) c.args.whole (λ some w at. c.requires.whole (subst (λ (v : View). IsSome v.told.blobs) c.self.view_is some) K w keeps at) (g.S.Shelf.told c.mend_for.new.shelf) c.mend_for.new.pending c.in_ok-mend_for.ensures.over (λ J s. c.mend_for.ensures.held J (subst (λ (l : List SetInfo). Sees l c.self.inside.pending J) (sym c.deref.ensures.value) s)) held c.in_ok-recipe.recipe c.with_whole-recipe.result c.in_ok-recipe.ensures.found c.with_whole-recipe.ensures _ c.get_recipe.ensures.kept.blobs kv at in
+    let set = ap (λ (p : Recipe). p.set) c.with_whole-recipe.ensures ∙ c.in_ok-recipe.ensures.found.2.set in
+    let number = ap (λ (p : Recipe). p.version) c.with_whole-recipe.ensures ∙ c.in_ok-recipe.ensures.found.2.number in
+    subst (λ (u : View). (blob_at (g.S.Shelf.told c.replace_recipe.new.shelf).blobs (recipe_name c.args.set c.args.version) ≡ blob_at u.told.blobs (recipe_name c.args.set c.args.version)) ⊎ (blob_at (g.S.Shelf.told c.replace_recipe.new.shelf).blobs (recipe_name c.args.set c.args.version) ≡ Some (recipe_bytes_2 kv.sum (recipe_of c.args.set c.args.version kv)))) c.self.view_is
+    (⊎_elim
+    (λ same. inl (same ∙ ap (λ (t : Option Blobs). blob_at t (recipe_name c.args.set c.args.version)) c.get_recipe.ensures.kept.blobs ∙ c.mend_for.ensures.recipes K sees c.args.set c.args.version (version_high K.state c.args.set c.args.version kv at)))
+    (λ second. inr second)
+    (own_or_second c.args.set c.args.version kv c.with_whole-recipe.result (g.S.Shelf.told c.get_recipe.new.shelf).blobs _ says_all set number c.replace_recipe.ensures.at_most))
+
+pub returns-clause-own : goal.returns-clause-own
+returns-clause-own g c K kv keeps at =
+    let k = subst (λ (v : View). Keeps v K) (sym c.self.view_is) keeps in
+    let sees = subst (λ (l : List SetInfo). Sees l c.self.inside.pending K) (sym c.deref.ensures.value) (sees_of _ K k) in
+    let held = c.in_ok-mend_for.ensures.mended K sees k.held in
+    let below : c.args.set < 256 = omega (arith, c.ranges.set.fits) in
+    let says_all = says _ K k c.args.set c.args.version below (c.requires.kept K keeps) c.args.whole (λ some w at. c.requires.whole (subst (λ (v : View). IsSome v.told.blobs) c.self.view_is some) K w keeps at) (g.S.Shelf.told c.mend_for.new.shelf) c.mend_for.new.pending c.in_ok-mend_for.ensures.over (λ J s. c.mend_for.ensures.held J (subst (λ (l : List SetInfo). Sees l c.self.inside.pending J) (sym c.deref.ensures.value) s)) held c.in_ok-recipe.recipe c.with_whole-recipe.result c.in_ok-recipe.ensures.found c.with_whole-recipe.ensures _ c.get_recipe.ensures.kept.blobs kv at in
+    let set = ap (λ (p : Recipe). p.set) c.with_whole-recipe.ensures ∙ c.in_ok-recipe.ensures.found.2.set in
+    let number = ap (λ (p : Recipe). p.version) c.with_whole-recipe.ensures ∙ c.in_ok-recipe.ensures.found.2.number in
+    subst (λ (u : View). (blob_at (g.S.Shelf.told c.replace_recipe.new.shelf).blobs (recipe_name c.args.set c.args.version) ≡ blob_at u.told.blobs (recipe_name c.args.set c.args.version)) ⊎ (blob_at (g.S.Shelf.told c.replace_recipe.new.shelf).blobs (recipe_name c.args.set c.args.version) ≡ Some (recipe_bytes_2 kv.sum (recipe_of c.args.set c.args.version kv)))) c.self.view_is
+    (⊎_elim
+    (λ same. inl (same ∙ ap (λ (t : Option Blobs). blob_at t (recipe_name c.args.set c.args.version)) c.get_recipe.ensures.kept.blobs ∙ c.mend_for.ensures.recipes K sees c.args.set c.args.version (version_high K.state c.args.set c.args.version kv at)))
+    (λ second. inr second)
+    (own_or_second c.args.set c.args.version kv c.with_whole-recipe.result (g.S.Shelf.told c.get_recipe.new.shelf).blobs _ says_all set number c.replace_recipe.ensures.at_most))
+
+pub returns-in_err-mend_for-clause-tells : goal.returns-in_err-mend_for-clause-tells
+returns-in_err-mend_for-clause-tells g c some = c.mend_for.ensures.tells (subst (λ (v : View). IsSome v.told.blobs) (sym c.self.view_is) some)
+
+pub returns-in_err-recipe-clause-tells : goal.returns-in_err-recipe-clause-tells
+returns-in_err-recipe-clause-tells g c some = tells_same _ _ c.get_recipe.ensures.kept.blobs (c.mend_for.ensures.tells (subst (λ (v : View). IsSome v.told.blobs) (sym c.self.view_is) some))
+
+pub returns-in_err-replace_recipe-clause-tells : goal.returns-in_err-replace_recipe-clause-tells
+returns-in_err-replace_recipe-clause-tells g c some = told_put c.with_whole-recipe.result _ _ c.replace_recipe.ensures.at_most (tells_same _ _ c.get_recipe.ensures.kept.blobs (c.mend_for.ensures.tells (subst (λ (v : View). IsSome v.told.blobs) (sym c.self.view_is) some)))
+
+pub returns-clause-tells : goal.returns-clause-tells
+returns-clause-tells g c some = told_put c.with_whole-recipe.result _ _ c.replace_recipe.ensures.at_most (tells_same _ _ c.get_recipe.ensures.kept.blobs (c.mend_for.ensures.tells (subst (λ (v : View). IsSome v.told.blobs) (sym c.self.view_is) some)))

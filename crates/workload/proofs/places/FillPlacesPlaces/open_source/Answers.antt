@@ -4,8 +4,8 @@ use Rattle.workload.specs.Places.{Filling, file_at}
 use Rattle.workload.proofs.Placing.{version_file}
 use Rattle.workload.proofs.places.FillPlacesPlaces.open_source.Goals as goal
 
-pub returns-in-Some-clause-reader : goal.returns-in-Some-clause-reader
-returns-in-Some-clause-reader c =
+pub returns-clause-reader : goal.returns-clause-reader
+returns-clause-reader c =
     ap (λ (b : List ℕ). Some b) c.new.ensures
     ∙ version_file c.self.inside.seed c.in-Some.version c.as_slice.result.now c.args.name.now c.in-Some.ensures.value
     ∙ ap (λ (l : List Place). file_at c.self.inside.seed l c.args.name.now) c.as_slice.ensures.value

@@ -1,5 +1,5 @@
 -- What `fill` prints, and what it runs.
-use Rattle.std.proofs.Common.{◌≡◌, ◌≤◌, ◌<◌, ◌+◌, ◌-◌, ℕ, suc, List, [], ◌∷◌, ◌++◌, length, length-drop, drop, get_or, Option, Some, None, refl, sym, ap, subst, arith, ◌∙◌, append_assoc, add-one}
+use Rattle.std.proofs.Common.{◌≡◌, ◌≤◌, ◌<◌, ◌+◌, ◌-◌, ℕ, zero, suc, List, [], ◌∷◌, ◌++◌, length, length-drop, drop, get_or, Option, Some, None, refl, sym, ap, subst, arith, ◌∙◌, append_assoc, add-one}
 use Rattle.std.specs.Prelude.{min, codes, decimal, IsSome}
 use Rattle.std.proofs.Math.Seq.{drop-cons, drop-length}
 use Rattle.std.proofs.lemmas.List.{append-nil}
@@ -47,6 +47,12 @@ next_line lines i line within is = drop-cons lines i line within ∙ ap (λ (x :
 
 next_answer : (answers : List Answer) (i : ℕ) (answer : Answer) → i < length answers → answer ≡ get_or answers i answer → drop i answers ≡ answer ∷ drop (i + 1) answers
 next_answer answers i answer within is = drop-cons answers i answer within ∙ ap (λ (x : Answer). x ∷ drop (suc i) answers) (sym is) ∙ ap (λ (k : ℕ). answer ∷ drop k answers) (sym (add-one i))
+
+-- what is read within a list does not depend on the default
+pub read_within : (answers : List Answer) (i : ℕ) (d e : Answer) → i < length answers → get_or answers i d ≡ get_or answers i e
+read_within [] i d e within = absurd (omega arith)
+read_within (answer ∷ answers) zero d e within = refl
+read_within (answer ∷ answers) (suc i) d e within = read_within answers i d e (omega arith)
 
 module _ (files : Files) (lines : List Line) (answers : List Answer) (i : ℕ) (before mid : SinkTold) (so_far : SummedTo files lines answers i before mid) where
   module _ (line : Line) (answer : Answer) (in_lines : i < length lines) (in_answers : i < length answers) (is_line : line ≡ get_or lines i line) (is_answer : answer ≡ get_or answers i answer) where

@@ -55,7 +55,9 @@ fn print_outputs<O: Sink>(
 {
     let count = lines.len().min(answers.len());
     for at in 0..count {
-        if let Some(fault) = print_output(&lines[at], &answers[at], places, out) {
+        let line = &lines[at];
+        let answer = &answers[at];
+        if let Some(fault) = print_output(line, answer, places, out) {
             return Some(fault);
         }
     }

@@ -1,22 +1,42 @@
-use Rattle.std.proofs.Common.{◌∙◌, sym, subst, refl, inr, List}
+use Rattle.std.proofs.Common.{◌∙◌, ap, sym, subst, refl, inr, List}
 use Rattle.std.specs.List.{AllByRecursion}
 use Rattle.vault_types.specs.declared.Line.{Line}
+use Rattle.vault_traits.specs.Told.{ShelfTold}
 use Rattle.script_laws.specs.Outputs.{AreApartLines}
 use Rattle.word_ranges.specs.Ranges.{IsLineInRange}
 use Rattle.word_ranges.proofs.Fills.{fill_in_range, fill_apart}
+use Rattle.run_laws.specs.Early.{IsSameBut, IsStartFault}
+use Rattle.run_laws.specs.Filling.{RunsFill}
 use Rattle.run_laws.specs.World.{World}
 use Rattle.command_runner.proofs.Fills.{filled}
-use Rattle.command_runner.proofs.Openings.{status_of_slice}
+use Rattle.command_runner.proofs.Openings.{not_opened, status_of_slice}
 use Rattle.command_runner.proofs.filling.run_fill.Goals as goal
 
-pub run_over-requires : goal.run_over-requires
-run_over-requires g c =
+pub run_over-requires-clause-apart : goal.run_over-requires-clause-apart
+run_over-requires-clause-apart g c κs within =
     let are = c.as_slice-script.ensures.value ∙ c.in-Ok.ensures.lines in
-    record {
-      apart = subst (λ (lines : List Line). AreApartLines lines) (sym are) (fill_apart c.args.versions c.requires.few);
-      ranges = subst (λ (lines : List Line). AllByRecursion IsLineInRange lines) (sym are) (fill_in_range c.args.versions);
-      limits = c.requires.limits;
-    }
+    subst (λ (lines : List Line). AreApartLines lines) (sym are) (fill_apart c.args.versions c.requires.few)
+
+pub run_over-requires-clause-ranges : goal.run_over-requires-clause-ranges
+run_over-requires-clause-ranges g c κs within =
+    let are = c.as_slice-script.ensures.value ∙ c.in-Ok.ensures.lines in
+    subst (λ (lines : List Line). AllByRecursion IsLineInRange lines) (sym are) (fill_in_range c.args.versions)
+
+pub returns-in-Err-run_over : goal.returns-in-Err-run_over
+returns-in-Err-run_over g c =
+    let p = g.P.Places.told c.args.places.now in
+    let s = g.S.Shelf.told in
+    let old = s c.args.shelf in
+    let o = g.O.Sink.told in
+    let i = g.I.Source.told in
+    let r = g.R.Sink.told in
+    let x = c.ended_early-in-Err-run_over in
+    let e = x.ensures in
+    let before : World = record { shelf = old; places = p; input = i c.args.input; out = o c.args.out; report = r c.args.report.now } in
+    let now : World = record { shelf = s x.result.shelf; places = p; input = i x.result.input; out = o x.result.out; report = r x.new.report } in
+    not_opened (RunsFill c.args.seed c.args.versions c.args.limits.now) before now x.result.answers.items x.result.fault c.in-Err-run_over.fault x.result.status
+    (subst (λ (t : ShelfTold). IsSameBut old t × IsStartFault old t c.in-Err-run_over.fault) (sym (ap s e.shelf)) c.in-Err-run_over.ensures.err)
+    e.fault e.none refl (ap i e.input) (ap o e.out) e.line e.status
 
 pub returns : goal.returns
 returns g c =

@@ -1,6 +1,6 @@
 -- One version: its restore, the put of its recipe, and what both come to.
 use Rattle.std.proofs.Common.{◌≡◌, ◌⊎◌, inl, inr, ⊎_elim, ℕ, ◌+◌, ◌≤◌, ◌<◌, Bool, true, false, IsTrue, length, map, List, [], ◌∷◌, ◌++◌, Option, Some, None, refl, sym, ap, subst, ◌∙◌, arith}
-use Rattle.std.specs.Prelude.{◌≢◌, IsSome, IfSome, IfOk, IfErr, OnErr, Result, Ok, Err, Contains}
+use Rattle.std.specs.Prelude.{◌≢◌, IsSome, IfSome, IfOk, IfErr, OnOk, OnErr, Result, Ok, Err, Contains, is_some}
 use Rattle.std.specs.FinMap as fin
 use Rattle.std.specs.Option.{option_map, option_map_or}
 use Rattle.vault_types.specs.declared.Answer.{Answer}
@@ -190,6 +190,14 @@ module _ (u w : View) (before now : SinkTold) (s n : ℕ) (result : Result Answe
   fault_here (fault.NotKept a b c e) is = clash (is_kept r.core.0.state s n) (r.kept r.core.0 r.core.1) (cause_is (fault.NotKept a b c e) is r.core.0 r.core.1).0
   fault_here f is = absurd (cause_is f is r.core.0 r.core.1)
 
+-- from the clauses of the call
+
+pub kept_after : (u w : View) (s n : ℕ) → HasCore u → ((K : Core) → Keeps u K → is_kept K.state s n ≡ true) → ((K : Core) → Keeps u K → HasStayed u w K s n) → (J : Core) → Keeps w J → is_kept J.state s n ≡ true
+kept_after u w s n core kept state J also =
+    let K : Core = core.0 in
+    let stayed = state K core.1 in
+    kept_alike w J (with_pins K.pins stayed.strays K) also stayed.keeps s n ∙ kept K core.1
+
 -- ---- a read of a recipe, and a put
 
 pin_of_recipe : (told : Option Blobs) (S : State) (s n : ℕ) (d : Kind) (i : ℕ) (y : Why) → IsRecipeDamage told s n d i y → IsPinDamage told S s n d i y
@@ -298,6 +306,30 @@ fault_of u v w (fault.Damaged kind.Payload i y) low h = tt
 fault_of u v w fault.Memory low h = tt
 fault_of u v w f low h = absurd h
 
+-- in each state that is kept, from the results of the calls
+module _ (u w x : View) (s n : ℕ) (p : IsReplace w x s n) (each : (S : State) (other : Option Change) → IsStateOf u S other → Summed u w S other s n) where
+  pub put_results : {T : Type 0} (r : Result T Fault) → OnOk r ((J : Core) → Keeps w J → Keeps x (after_mend J.strays J))
+      → OnOk r ((J : Core) (k : KeptVersion) → Keeps w J → version_of J.state s n ≡ Some k → Has x.told.blobs (recipe_name s n) (Some (recipe_bytes_2 k.sum (recipe_of s n k))))
+      → OnOk r ((J : Core) → Keeps w J → LeavesNowIfTold x.told.history (IsNear J.state None)) → OnOk r ((S : State) (other : Option Change) → IsStateOf u S other → PutAgain u x S other s n)
+  put_results (Ok y) ok spelled acknowledged = λ S other here. put_done u w x s n p S other (each S other here) ok spelled acknowledged
+  put_results (Err f) ok spelled acknowledged = tt
+
+  pub put_refusals : {T : Type 0} (r : Result T Fault) → s < 256 → ((K : Core) → Keeps w K → is_kept K.state s n ≡ true) → OnErr r ((J : Core) → Keeps w J → IsRefused x J) → IfErr r (IsCause w.told.faults x.told.faults (IsRecipeDamage w.told.blobs s n))
+      → IfErr r (λ f. (S : State) (other : Option Change) → IsStateOf u S other → Stopped u x S other s n f)
+  put_refusals (Ok y) range kept err causes = tt
+  put_refusals (Err f) range kept err causes = λ S other here.
+      let summed = each S other here in
+      put_stopped u w x s n p S other summed f err (read_shows w x s n range kept f causes S other summed.leaves.keeps)
+
+  pub put_faults : {T : Type 0} (r : Result T Fault) → u.told.faults ≤ w.told.faults → s < 256 → ((K : Core) → Keeps w K → is_kept K.state s n ≡ true) → IfErr r (IsCause w.told.faults x.told.faults (IsRecipeDamage w.told.blobs s n)) → IfErr r (IsMigrateFault u x)
+  put_faults (Ok y) low range kept causes = tt
+  put_faults (Err f) low range kept causes = fault_of u w x f low (read_fault w x s n range kept f causes)
+
+-- a whole that is not there
+pub no_whole : (o : Option Fp) → is_some o ≡ false → IsSome o → ⊥
+no_whole None not some = absurd (let e : false ≡ true = some in cc)
+no_whole (Some x) not some = absurd (let e : true ≡ false = not in cc)
+
 -- ---- the whole of one version
 
 -- what a read of the recipe ensures in every case
@@ -307,7 +339,7 @@ pub record IsRead (u v : View) : Type 0 where
   pub shelf : (v.told.blobs ≡ u.told.blobs) × (v.told.history ≡ u.told.history) × (v.told.gets ≡ u.told.gets)
 
 module _ (u v : View) (s n : ℕ) (read : IsRead u v) (S : State) (other : Option Change) (here : IsStateOf u S other) where
-  read_state : IsStateOf v S other
+  pub read_state : IsStateOf v S other
   read_state = record { core = here.core; keeps = read.keeps here.core here.keeps; state = here.state; change = here.change; job = here.job; pins = here.pins; told = subst (λ (b : Option Blobs). IsSome b) (sym read.shelf.0) here.told }
 
   blob_read : (q : Name) → blob_at v.told.blobs q ≡ blob_at u.told.blobs q

@@ -18,12 +18,12 @@ invariant-loop-number g l = record {
 abbrev pub decreases-loop-number : goal.decreases-loop-number
 decreases-loop-number g l = 256 - l.number
 
-abbrev pub invariant-loop-version : goal.invariant-loop-version
-invariant-loop-version g l = record {
+abbrev pub invariant-loop-keeper : goal.invariant-loop-keeper
+invariant-loop-keeper g l = record {
   small : l.recipes ≤ l.number * 4294967296 + l.version;
   later : IsLaterOf l.fn.keeper l.keeper;
   gone : (S : State) (other : Option Change) → IsStateOf l.fn.keeper S other → InSet l.fn.keeper l.keeper S other l.number l.version l.recipes;
 }
 
-abbrev pub decreases-loop-version : goal.decreases-loop-version
-decreases-loop-version g l = 4294967295 - l.version
+abbrev pub decreases-loop-keeper : goal.decreases-loop-keeper
+decreases-loop-keeper g l = 4294967295 - l.version

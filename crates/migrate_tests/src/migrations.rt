@@ -15,6 +15,7 @@ const RECIPE: Name = Name {
 };
 
 // What a run gave.
+#[derive(Drop)]
 struct Seen<S> {
     status: u8,
     out: Vec<u8>,
@@ -110,7 +111,7 @@ fn a_store_that_fails_keeps_its_version(rt: HostRuntime) -> Result<(), Fail> {
                 assert!(rt; seen.out.as_slice() == line || seen.report.as_slice() == line);
             } else {
                 assert_eq!(rt; seen.status, 0);
-                assert!(rt; seen.out.as_slice() == b"migrate: 1 recipes\n");
+                assert!(rt; seen.out.as_slice() == b"migrate: 1 recipes\n".as_slice());
             }
             let seen = run(alloc, "restore --version 1", b"", seen.shelf.into_inner())?;
             assert_eq!(rt; seen.status, 0);

@@ -100,16 +100,17 @@ fn a_store_that_fails_keeps_its_version(rt: HostRuntime) -> Result<(), Fail> {
     let (shelf, _) = first_format(alloc, &rt)?;
     let mut calls = 0;
     for keep in [false, true] {
-        calls = 0;
+        let mut is_over = false;
         for number in 1..=40 {
             let failing = FaultShelf::new(shelf.copy()?, [number].to_vec(alloc)?, keep);
             let seen = run(alloc, "migrate", b"", failing)?;
             if seen.status == 6 {
-                calls += 1;
-                assert_eq!(rt; calls, number);
+                assert!(rt; !is_over);
+                calls = number;
                 let line = b"error 6: store failed\n".as_slice();
                 assert!(rt; seen.out.as_slice() == line || seen.report.as_slice() == line);
             } else {
+                is_over = true;
                 assert_eq!(rt; seen.status, 0);
                 assert!(rt; seen.out.as_slice() == b"migrate: 1 recipes\n".as_slice());
             }

@@ -9,7 +9,7 @@ use Rattle.vault_types.specs.declared.Fault.{Fault}
 use Rattle.vault_types.specs.declared.Fault.TheVariants as fault
 use Rattle.vault_types.specs.declared.Answer.{Answer}
 use Rattle.vault_types.specs.Texts.{answer_text, fault_line}
-use Rattle.vault_traits.specs.Counts.{Rose, RiseFrom}
+use Rattle.vault_traits.specs.Counts.{Rose}
 use Rattle.vault_traits.specs.Told.{SinkTold, Takes}
 use Rattle.run_laws.specs.World.{IsPrinted, IsTold, TakesFront, report_text}
 

@@ -1,5 +1,5 @@
 -- No line of `fill` meets a failure of its places, but one of a sink.
-use Rattle.std.proofs.Common.{◌≡◌, ◌≤◌, ℕ, List, [], ◌∷◌, Option, refl, sym, subst, arith}
+use Rattle.std.proofs.Common.{◌≡◌, ◌≤◌, ℕ, List, [], ◌∷◌, Option, refl, subst, arith}
 use Rattle.std.specs.List.{filter_map}
 use Rattle.vault_types.specs.declared.Limits.{Limits}
 use Rattle.vault_types.specs.declared.Fault.{Fault}

@@ -12,7 +12,7 @@ use Rattle.vault_types.specs.Names.{named_chunk, fp}
 use Rattle.vault_types.specs.State.{State, Dataset, KeptVersion, dataset, empty_dataset, floor_of, latest_of, version_in, version_of, IsValid}
 use Rattle.vault_types.specs.Bytes.{bytes_of}
 use Rattle.vault_types.specs.Backup.{backup, filling, version_from}
-use Rattle.vault_types.specs.Delete.{delete, without_below}
+use Rattle.vault_types.specs.Delete.{delete}
 use Rattle.vault_types.specs.Fill.{Filled}
 use Rattle.vault_types.specs.Script.{Sources, after, after_line, state_after, is_refused, IsAnswer, IsDone}
 use Rattle.vault_types.proofs.GrowLemmas.{version_of-new, version_of-kept}

@@ -1,11 +1,11 @@
 -- The cores that a keeper keeps at one moment are of one state.
-use Rattle.std.proofs.Common.{◌≡◌, ◌⊎◌, ⊎_elim, ℕ, ◌+◌, ◌≤◌, ◌<◌, ◌&&◌, length, map, true, false, List, Option, Some, None, refl, sym, ap, subst, ◌∙◌, get_or}
+use Rattle.std.proofs.Common.{◌≡◌, ◌⊎◌, ⊎_elim, ℕ, ◌+◌, ◌<◌, ◌&&◌, length, true, false, List, Option, Some, None, refl, sym, ap, subst, ◌∙◌, get_or}
 use Rattle.std.specs.Prelude.{IsSome, IfSome, nat_le}
 use Rattle.std.specs.FinMap as fin
 use Rattle.std.proofs.Math.ListN.{get_or-map}
 use Rattle.vault_types.specs.declared.Pending.{Pending}
 use Rattle.vault_types.specs.declared.Pending.TheVariants.{Not, Opened, FailedFor}
-use Rattle.vault_types.specs.State.{State, KeptVersion, dataset, empty_dataset, floor_of, latest_of, is_kept, version_of, recipe_of}
+use Rattle.vault_types.specs.State.{KeptVersion, dataset, empty_dataset, floor_of, is_kept, version_of, recipe_of}
 use Rattle.vault_types.specs.Blobs.{floor_bytes, recipe_bytes, recipe_bytes_2}
 use Rattle.vault_types.specs.Shelf.{Blobs, Stands, with_blob, blob_at, recipe_name, floor_name}
 use Rattle.vault_types.specs.Events.{Core, Change, IsChange, IsNear}
@@ -16,7 +16,7 @@ use Rattle.keeper_catalog.specs.Catalog.{set_info}
 use Rattle.keeper_catalog.specs.View.{View, Keeps}
 use Rattle.commit_laws.proofs.Listing.{none_some}
 use Rattle.commit_laws.proofs.Loading.{held_recipe}
-use Rattle.commit_laws.proofs.Unique.{StandsFor, stands_unique, plain_of}
+use Rattle.commit_laws.proofs.Unique.{stands_unique, plain_of}
 use Rattle.keeper_jobs.proofs.Seeing.{alone, not_failed, opened_failed, failed_same}
 
 -- the change that is half done is of the set whose write failed

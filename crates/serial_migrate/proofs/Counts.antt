@@ -1,12 +1,12 @@
 -- How many of some versions have their recipes in the first format.
-use Rattle.std.proofs.Common.{◌≡◌, ◌⊎◌, inl, inr, ⊎_elim, ℕ, zero, suc, ◌+◌, ◌-◌, ◌≤◌, ◌<◌, length, List, [], ◌∷◌, ◌++◌, Option, Some, None, refl, sym, ap, subst, ◌∙◌, arith, append_assoc}
+use Rattle.std.proofs.Common.{◌≡◌, ◌⊎◌, inl, inr, ⊎_elim, ℕ, zero, suc, ◌+◌, ◌-◌, ◌≤◌, List, [], ◌∷◌, ◌++◌, Option, Some, None, refl, sym, ap, subst, ◌∙◌, arith, append_assoc}
 use Rattle.std.specs.Prelude.{slice_get}
-use Rattle.vault_types.specs.State.{State, KeptVersion, dataset, floor_of, version_of, recipe_of}
+use Rattle.vault_types.specs.State.{State, KeptVersion, recipe_of}
 use Rattle.vault_types.specs.Blobs.{recipe_bytes_1, recipe_bytes_2}
 use Rattle.vault_types.specs.Shelf.{Blobs, blob_at, recipe_name}
 use Rattle.vault_types.specs.Plans.{requests, IsLeast}
 use Rattle.vault_types.specs.Script.{row_ids}
-use Rattle.run_laws.specs.Migrating.{IsFirst, IsSecond, IsOneFirst, HaveFirst, versions_from, versions_below, kept_versions}
+use Rattle.run_laws.specs.Migrating.{IsFirst, IsSecond, HaveFirst, versions_from}
 
 abbrev blob_or : List ℕ → Option (List ℕ) → List ℕ
 blob_or other (Some x) = x

@@ -1,6 +1,6 @@
 -- One version: its restore, the put of its recipe, and what both come to.
-use Rattle.std.proofs.Common.{◌≡◌, ◌⊎◌, inl, inr, ⊎_elim, ℕ, ◌+◌, ◌≤◌, ◌<◌, Bool, true, false, IsTrue, length, map, List, [], ◌∷◌, ◌++◌, Option, Some, None, refl, sym, ap, subst, ◌∙◌, arith}
-use Rattle.std.specs.Prelude.{◌≢◌, IsSome, IfSome, IfOk, IfErr, OnOk, OnErr, Result, Ok, Err, Contains, is_some}
+use Rattle.std.proofs.Common.{◌≡◌, ◌⊎◌, inl, inr, ⊎_elim, ℕ, ◌+◌, ◌≤◌, ◌<◌, true, false, IsTrue, length, map, List, [], ◌∷◌, ◌++◌, Option, Some, None, refl, sym, ap, subst, ◌∙◌, arith}
+use Rattle.std.specs.Prelude.{◌≢◌, IsSome, IfOk, IfErr, OnOk, OnErr, Result, Ok, Err, Contains, is_some}
 use Rattle.std.specs.FinMap as fin
 use Rattle.std.specs.Option.{option_map, option_map_or}
 use Rattle.vault_types.specs.declared.Answer.{Answer}
@@ -11,7 +11,6 @@ use Rattle.vault_types.specs.declared.Fp.{Fp}
 use Rattle.vault_types.specs.declared.Kind.{Kind}
 use Rattle.vault_types.specs.declared.Kind.TheVariants as kind
 use Rattle.vault_types.specs.declared.Name.{Name}
-use Rattle.vault_types.specs.declared.Pending.{Pending}
 use Rattle.vault_types.specs.declared.Why.{Why}
 use Rattle.vault_types.specs.declared.Why.TheVariants as why
 use Rattle.vault_types.specs.Names.{fp}
@@ -37,7 +36,7 @@ use Rattle.keeper_core.specs.Replacing.{IsRefused}
 use Rattle.keeper_core.proofs.Replacings.{version_there}
 use Rattle.script_laws.specs.Complete.{is_counted}
 use Rattle.run_laws.specs.Migrating.{IsFirst, IsSecond, HaveFirst, ShowsDamage}
-use Rattle.serial_delete.specs.Keeping.{IsStateOf, IsKnownStray}
+use Rattle.serial_delete.specs.Keeping.{IsStateOf}
 use Rattle.serial_restore.specs.Restoring.{IsRestoreFault, HasStayed, IsRestored, IsCut, WhereTold}
 use Rattle.serial_restore.proofs.Damages.{undamaged, shown}
 use Rattle.serial_migrate.specs.Going.{IsLaterOf, IsMigrateFault, LeavesOne, LoadsLeast, Summed, PutAgain, Stopped, Went, Halted, without_write}

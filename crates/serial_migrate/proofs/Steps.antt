@@ -1,16 +1,15 @@
 -- One version after another.
 use Rattle.std.proofs.Common.{◌≡◌, ◌⊎◌, inl, inr, ⊎_elim, ℕ, zero, suc, ◌+◌, ◌-◌, ◌≤◌, ◌<◌, Bool, true, false, cond, length, List, [], ◌∷◌, ◌++◌, Option, Some, None, refl, sym, ap, subst, ◌∙◌, arith, append_assoc}
-use Rattle.std.specs.Prelude.{◌≢◌, ◌&&◌, IsTrue, IsSome, IsErrAnd, IfErr, Result, Ok, Err, nat_lt, nat_le, nat_eq}
+use Rattle.std.specs.Prelude.{◌≢◌, ◌&&◌, IsErrAnd, IfErr, Result, Ok, Err, nat_lt, nat_le}
 use Rattle.std.proofs.lemmas.Bool.Decides.{nat_tests}
 use Rattle.std.proofs.lemmas.List.{append-nil}
 use Rattle.vault_types.specs.declared.Fault.{Fault}
 use Rattle.vault_types.specs.declared.Fault.TheVariants as fault
-use Rattle.vault_types.specs.declared.Answer.TheVariants.{Refused}
 use Rattle.vault_types.specs.State.{State, KeptVersion, dataset, floor_of, latest_of, is_kept, version_of, IsValid}
 use Rattle.vault_types.specs.Shelf.{Blobs, blob_at, recipe_name}
 use Rattle.vault_types.specs.Events.{Core, Change, IsNear}
 use Rattle.vault_traits.specs.Counts.{counted_up}
-use Rattle.vault_traits.specs.Crash.{History, LeavesNowIfTold, LeavesOnlyIfTold}
+use Rattle.vault_traits.specs.Crash.{LeavesNowIfTold, LeavesOnlyIfTold}
 use Rattle.vault_traits.proofs.Moments.{then, more, stays}
 use Rattle.keeper_parts.proofs.Changing.{recipe_same, version_low, version_high, latest_low}
 use Rattle.keeper_parts.proofs.Growing.{floor_pos}
@@ -18,8 +17,8 @@ use Rattle.keeper_catalog.specs.View.{View, Keeps}
 use Rattle.keeper_core.proofs.Replacings.{version_there}
 use Rattle.script_laws.proofs.Rising.{counted_up_twice}
 use Rattle.run_laws.specs.Migrating.{IsSecond, HaveFirst, kept_versions, versions_from, versions_below}
-use Rattle.serial_delete.specs.Keeping.{IsStateOf, IsKnownStray}
-use Rattle.serial_migrate.specs.Going.{LeavesOne, Stopped, Went, Halted, IsBefore, Gone, AllDone, Ended}
+use Rattle.serial_delete.specs.Keeping.{IsStateOf}
+use Rattle.serial_migrate.specs.Going.{LeavesOne, Went, Halted, IsBefore, Gone, AllDone, Ended}
 use Rattle.serial_migrate.proofs.Counts.{have_append, have_split, have_same, have_head, have_moved, from_goes_on}
 
 -- ---- the state that is kept

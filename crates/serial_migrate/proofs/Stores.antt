@@ -1,25 +1,21 @@
 -- What a migration ensures, from what all its steps come to.
-use Rattle.std.proofs.Common.{◌≡◌, ◌⊎◌, inl, inr, ⊎_elim, ℕ, ◌+◌, ◌≤◌, ◌<◌, true, false, IsTrue, List, [], ◌∷◌, length, Option, Some, None, refl, sym, ap, subst, ◌∙◌, arith}
-use Rattle.std.specs.Prelude.{IfOk, IfErr, Result, Ok, Err}
+use Rattle.std.proofs.Common.{◌≡◌, ◌⊎◌, inl, inr, ⊎_elim, ℕ, ◌≤◌, true, false, IsTrue, [], ◌∷◌, Option, None, refl, ap, arith}
+use Rattle.std.specs.Prelude.{Ok, Err}
 use Rattle.vault_types.specs.declared.Answer.{Answer}
 use Rattle.vault_types.specs.declared.Answer.TheVariants.{Migrated, Refused}
 use Rattle.vault_types.specs.declared.Fault.{Fault}
 use Rattle.vault_types.specs.declared.Fault.TheVariants as fault
 use Rattle.vault_types.specs.declared.Kind.TheVariants as kind
 use Rattle.vault_types.specs.declared.Name.{Name}
-use Rattle.vault_types.specs.State.{State, KeptVersion, version_of}
-use Rattle.vault_types.specs.Bytes.{IsSound}
+use Rattle.vault_types.specs.State.{State}
 use Rattle.vault_types.specs.Events.{Change, IsNear}
 use Rattle.vault_types.specs.Script.{is_refused}
-use Rattle.vault_traits.specs.Counts.{Rose}
-use Rattle.vault_traits.specs.Crash.{LeavesNowIfTold, LeavesOnlyIfTold}
+use Rattle.vault_traits.specs.Crash.{LeavesNowIfTold}
 use Rattle.keeper_catalog.specs.View.{View}
 use Rattle.script_laws.specs.Causes.{CausesRise, counts_of_shelf}
-use Rattle.script_laws.specs.Complete.{is_counted}
-use Rattle.script_laws.specs.Steps.{answer_of}
-use Rattle.run_laws.specs.Migrating.{AreForms, GetsOf, MigratesIn, BearsMigration, MigratesStore, ShowsDamage, HaveFirst, fits_migrate, kept_versions}
+use Rattle.run_laws.specs.Migrating.{GetsOf, MigratesIn, BearsMigration, MigratesStore, HaveFirst, fits_migrate, kept_versions}
 use Rattle.serial_delete.specs.Keeping.{IsStateOf, IsKnownStray}
-use Rattle.serial_migrate.specs.Going.{IsLaterOf, IsMigrateFault, Gone, AllDone, Ended}
+use Rattle.serial_migrate.specs.Going.{IsLaterOf, IsMigrateFault, AllDone, Ended}
 
 module _ (u v : View) where
   -- what a migration comes to in a state

@@ -45,7 +45,8 @@ pub trait Places {
         ensures write_faults { (told self.new).write_faults ≡ (told self.old).write_faults }
         ensures cause { HasCause (told self.old).faults (told self.new).faults result };
 
-    /// Gives the name what the writer took; its faults are counted as `write_faults`. It takes no memory.
+    /// Gives the name what the writer took; its faults are counted as `write_faults`. Where the places tell how many bytes a
+    /// writer takes, one that has failed had taken so many (`room`). It takes no memory.
     fn close_sink(&mut self, name: &str, writer: Self::Writer)
         requires { IsThere (told self.old).files name.now }
         ensures room { FailsOnlyFull room (Self.Writer.told writer) }

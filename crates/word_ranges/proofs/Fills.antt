@@ -1,5 +1,5 @@
 -- The script of `fill`: its settings are in their ranges, and its names are apart.
-use Rattle.std.proofs.Common.{◌≡◌, ◌≢◌, ◌≤◌, ◌<◌, ◌+◌, ◌/◌, ◌^◌, ℕ, zero, suc, Bool, true, false, not, ◌&&◌, ◌||◌, IsTrue, ◌++◌, List, [], ◌∷◌, map, codes, refl, ap, sym, subst, arith, ◌∙◌, append_assoc}
+use Rattle.std.proofs.Common.{◌≡◌, ◌≢◌, ◌≤◌, ◌<◌, ◌+◌, ◌/◌, ◌^◌, ℕ, zero, suc, Bool, true, false, ◌||◌, IsTrue, ◌++◌, List, [], ◌∷◌, map, codes, refl, sym, subst, arith, ◌∙◌, append_assoc}
 use Rattle.std.specs.Prelude.{decimal}
 use Rattle.std.specs.List.{AllByRecursion, list_any, range_with_len}
 use Rattle.std.specs.Str.{bytes_eq}

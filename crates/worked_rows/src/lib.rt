@@ -5,6 +5,8 @@
 #[cfg(test)]
 mod formats;
 #[cfg(test)]
+mod migrations;
+#[cfg(test)]
 mod rows;
 #[cfg(test)]
 mod running;

@@ -150,16 +150,6 @@ version_file seed v places name = by (place_at places name)
     by None is = cc
     by (Some p) is = ap (λ (o : Option ℕ). Some (option_map_or (λ u. version_bytes seed u) o p.bytes)) is
 
--- a name that gives no version has what was written
-pub no_version_file : (seed : ℕ) (places : List Place) (name : List ℕ) → None ≡ version_at places name → output_at places name ≡ file_at seed places name
-no_version_file seed places name = by (place_at places name)
-  where
-    by : (p : Option Place) → None ≡ option_map_or (λ q. q.version) p None
-        → option_map_or (λ q. option_map_or (λ v. None) q.version (Some q.bytes)) p None ≡ option_map (λ q. bytes_of_place seed q) p
-    by None is = refl
-    by (Some p) is =
-        ap (λ (o : Option ℕ). option_map_or (λ v. None) o (Some p.bytes)) (sym is)
-        ∙ ap (λ (o : Option ℕ). Some (option_map_or (λ u. version_bytes seed u) o p.bytes)) is
 
 -- ---- of the calls
 

@@ -1,6 +1,5 @@
-use Rattle.std.proofs.Common.{rules, ◌≡◌, ◌≤◌, ◌<◌, ℕ, List, [], ◌∷◌, ◌+◌, ◌++◌, length, arith, sym, ap, subst, ◌∙◌, true, if◌then◌else◌}
-use Rattle.std.specs.Prelude.{vec_len, vec_capacity}
-use Rattle.script_laws.proofs.Chained.{Chained, chain_begins, chain_goes_on, chain_ends}
+use Rattle.std.proofs.Common.{◌≡◌, length, arith, true}
+use Rattle.script_laws.proofs.Chained.{chain_begins, chain_goes_on, chain_ends}
 use Rattle.script_laws.proofs.Composed.{runs_of_chain}
 use Rattle.script_laws.proofs.Rooms.{steps_of, rooms_of_chain}
 use Rattle.script_runner.proofs.run.script_plain.Goals as goal

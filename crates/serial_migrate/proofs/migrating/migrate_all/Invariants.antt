@@ -1,4 +1,4 @@
-use Rattle.std.proofs.Common.{◌≡◌, ◌+◌, ◌-◌, ◌*◌, ◌≤◌, Option}
+use Rattle.std.proofs.Common.{◌+◌, ◌-◌, ◌*◌, ◌≤◌, Option}
 use Rattle.vault_types.specs.State.{State}
 use Rattle.vault_types.specs.Events.{Change}
 use Rattle.run_laws.specs.Migrating.{versions_below}

@@ -1,9 +1,9 @@
-use Rattle.std.proofs.Common.{◌≡◌, ◌∙◌, sym, List, [], ℕ, Option, Some, None, ap}
+use Rattle.std.proofs.Common.{◌∙◌, List, [], ℕ, Option, ap}
 use Rattle.std.specs.Prelude.{unwrap_or}
 use Rattle.vault_types.specs.Names.{fp}
 use Rattle.workload.specs.declared.place.Place.{Place}
-use Rattle.workload.specs.Places.{Filling, file_at, output_at}
-use Rattle.workload.proofs.Placing.{version_file, no_version_file}
+use Rattle.workload.specs.Places.{Filling, file_at}
+use Rattle.workload.proofs.Placing.{version_file}
 use Rattle.workload.proofs.places.FillPlaces.sum.Goals as goal
 
 pub returns-in-Some : goal.returns-in-Some

@@ -1,11 +1,11 @@
-// A store whose recipe is in the first format.
-use crate::forms::in_first_format;
-use destor_top::{Ended, run_plain};
+// Rows of `migrate`, over a store whose recipe is in the first format.
+use crate::running::{Row, Seen, run_over};
+use recipe_store::{decode_recipe, encode_recipe};
 use std::alloc::Global;
 use std::process::Abort;
 use std::test::Fail;
-use vault_ports::{FaultShelf, MemPlaces, MemShelf, MemSink, MemSource, Shelf};
-use vault_types::{Kind, Limits, Name};
+use vault_ports::{FaultShelf, MemPlaces, MemShelf, Shelf};
+use vault_types::{Kind, Limits, Name, Set, Version};
 
 const TEXT: &[u8] = b"abcdabcdab";
 
@@ -14,49 +14,39 @@ const RECIPE: Name = Name {
     number: 1,
 };
 
-// What a run gave.
-#[derive(Drop)]
-struct Seen<S> {
-    status: u8,
-    out: Vec<u8>,
-    report: Vec<u8>,
-    shelf: S,
-}
-
-// A run of the words of a text, with the input's bytes.
+// A run of these words, whatever it prints.
 fn run<S: Shelf + Drop>(
     alloc: Global,
-    text: &str,
-    input: &[u8],
+    words: &'static str,
+    input: &'static [u8],
     shelf: S,
 ) -> Result<Seen<S>, Fail> {
-    let mut words = Vec::new(alloc);
-    for word in text.split_whitespace() {
-        words.push(String::from_str(alloc, word)?)?;
-    }
+    let row = Row {
+        words,
+        input,
+        status: 0,
+        out: b"",
+        report: b"",
+    };
     let mut places = MemPlaces::with(alloc, Vec::new(alloc), 0)?;
-    let mut report = MemSink::with(alloc, 100)?;
-    let Ended {
-        status,
-        shelf,
-        out,
-        ..
-    } = run_plain(
-        alloc,
-        words.as_slice(),
-        &Limits::standard(),
-        shelf,
-        &mut places,
-        MemSource::new(input.to_vec(alloc)?, 3),
-        MemSink::with(alloc, 100)?,
-        &mut report,
-    );
-    Ok(Seen {
-        status,
-        out: out.into_vec(),
-        report: report.into_vec(),
-        shelf,
-    })
+    run_over(alloc, &row, &Limits::standard(), shelf, &mut places)
+}
+
+// The bytes of a recipe without its sum; none where these are no recipe of the version.
+fn in_first_format(
+    alloc: Global,
+    bytes: &[u8],
+    set: Set,
+    version: Version,
+) -> Result<Option<Vec<u8>>, Fail> {
+    match decode_recipe(alloc, bytes, set, version)? {
+        Some(recipe) => {
+            let mut recipe = recipe;
+            recipe.whole = None;
+            Ok(Some(encode_recipe(alloc, &recipe)?))
+        }
+        None => Ok(None),
+    }
 }
 
 // A store with one version, and its recipe; the recipe on the shelf is in the first format.

@@ -150,7 +150,6 @@ version_file seed v places name = by (place_at places name)
     by None is = cc
     by (Some p) is = ap (λ (o : Option ℕ). Some (option_map_or (λ u. version_bytes seed u) o p.bytes)) is
 
-
 -- ---- of the calls
 
 pub version_found : (ps : List Place) (name : List ℕ) (i : ℕ) (p : Place) → p ≡ get_or ps i p → IsFirst ps name i → version_at ps name ≡ p.version

@@ -1,5 +1,5 @@
 -- What was written of some bytes.
-use Rattle.std.specs.Prelude.{◌≡◌, ℕ, ◌≤◌, ◌<◌, List, ◌++◌, Option, is_some, IfSome, length}
+use Rattle.std.specs.Prelude.{◌≡◌, ℕ, ◌≤◌, ◌<◌, ◌-◌, List, ◌++◌, take, drop, Option, is_some, IfSome, length}
 use Rattle.vault_traits.specs.Counts.{Rose}
 use Rattle.vault_traits.specs.Told.{SinkTold, Takes}
 use Rattle.fingerprint_stage.specs.declared.running_sum.RunningSum.{RunningSum}
@@ -24,3 +24,11 @@ pub record IsCutOff (bytes : List ℕ) (before now : SinkTold) : Type 0 where
   pub short : 0 < length rest
   pub parts : front ++ rest ≡ bytes
   pub taken : Takes before.taken now.taken front
+
+-- of these bytes a front was written, and the payload's bytes from `start` to `end` wait behind it
+pub record IsWaiting (payload bytes : List ℕ) (start end : ℕ) (before now : SinkTold) (sum sum' : Option RunningSum) : Type 0 where
+  pub front : List ℕ
+  pub parts : front ++ take (end - start) (drop start payload) ≡ bytes
+  pub ordered : start ≤ end
+  pub within : end ≤ length payload
+  pub written : IsWritten front before now sum sum'

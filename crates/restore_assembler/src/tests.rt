@@ -112,6 +112,24 @@ fn a_sink_that_fails_has_a_front(rt: HostRuntime) -> Result<(), Fail> {
 }
 
 #[test]
+fn neighbouring_spots_are_one_write(rt: HostRuntime) -> Result<(), Fail> {
+    let spots = [(0, 3), (3, 3), (0, 2), (4, 1), (5, 1)].map(|(at, len)| Spot { id: 1, at, len });
+    for (fail, front) in [
+        (2, b"abcdef".as_slice()),
+        (3, b"abcdefab".as_slice()),
+        (4, b"abcdefabef".as_slice()),
+    ] {
+        let mut copier = copier_of(rt.alloc(), spots.as_slice(), 1, None)?;
+        let fail = [fail].to_vec(rt.alloc())?;
+        let mut sink = FaultSink::new(MemSink::with(rt.alloc(), 100)?, fail);
+        let answer = give_all(rt.alloc(), &mut copier, &mut sink);
+        assert_eq!(rt; answer.is_ok(), front.len() == 10);
+        assert_eq!(rt; sink.as_slice(), front);
+    }
+    Ok(())
+}
+
+#[test]
 fn the_sum_of_all_bytes_is_compared(rt: HostRuntime) -> Result<(), Fail> {
     let right = Whole {
         number: 7,

@@ -40,7 +40,7 @@ fn write_piece<K: Sink>(
     Ok(())
 }
 
-// Writes the bytes of some spots of a payload.
+// Writes the bytes of some spots of a payload. Spots that lie one behind another are one piece.
 pub fn write_run<K: Sink>(
     payload: &[u8],
     run: &[Spot],
@@ -51,9 +51,15 @@ pub fn write_run<K: Sink>(
     ensures ok { OnOk result (IsWritten (flat_map (spot_bytes (λ _. payload.now)) run.now) (K.told sink.old) (K.told sink.new) sum.old sum.new) }
     ensures err { OnErr result (IsCutOff (flat_map (spot_bytes (λ _. payload.now)) run.now) (K.told sink.old) (K.told sink.new)) }
 {
+    let mut start = 0;
+    let mut end = 0;
     for spot in run {
         let at = spot.at as usize;
-        write_piece(&payload[at..at + spot.len as usize], sum, sink)?;
+        if at != end {
+            write_piece(&payload[start..end], sum, sink)?;
+            start = at;
+        }
+        end = at + spot.len as usize;
     }
-    Ok(())
+    write_piece(&payload[start..end], sum, sink)
 }

@@ -234,6 +234,8 @@ fn around(path: &str) -> &str {
     }
 }
 
+// Reads a file from its start to the end that it has now. It takes the room for all of it at once, and fills it by pieces that
+// the processor's caches hold.
 fn read_whole<F: Read + OpenFile>(alloc: Global, file: &mut F) -> Result<Vec<u8>, Refused> {
     let Ok(metadata) = file.metadata() else {
         return Err(Refused::Failed);
@@ -241,12 +243,17 @@ fn read_whole<F: Read + OpenFile>(alloc: Global, file: &mut F) -> Result<Vec<u8>
     let Ok(len) = usize::try_from(metadata.len()) else {
         return Err(Refused::Failed);
     };
-    let mut bytes = Vec::new(alloc);
-    bytes.resize(len, 0)?;
-    match file.read_exact(bytes.as_mut_slice()) {
-        Ok(()) => Ok(bytes),
-        Err(_) => Err(Refused::Failed),
+    let mut bytes = Vec::with_capacity(alloc, len)?;
+    let mut done = 0;
+    while done < len {
+        let next = done + (len - done).min(131_072);
+        bytes.resize(next, 0)?;
+        if file.read_exact(&mut bytes.as_mut_slice()[done..]).is_err() {
+            return Err(Refused::Failed);
+        }
+        done = next;
     }
+    Ok(bytes)
 }
 
 // Writes the bytes under a name of their own, waits until they are on the disk, and gives them the name that they

@@ -1,6 +1,6 @@
 -- A backup's line, from what a backup ensures.
 use Rattle.std.proofs.Common.{◌≡◌, ◌⊎◌, inl, inr, ⊎_elim, ◌≤◌, ◌<◌, ◌+◌, ◌-◌, ◌*◌, ◌^◌, ℕ, Bool, true, false, IsTrue, List, [], ◌∷◌, length, Option, Some, None, refl, sym, ◌∙◌, ap, subst, arith}
-use Rattle.std.specs.Prelude.{IsSome, IsSomeAnd, Result, Ok, Err, Contains}
+use Rattle.std.specs.Prelude.{IsSome, IsSomeAnd, IfSome, Result, Ok, Err, Contains}
 use Rattle.std.proofs.lemmas.List.Elements.{Contains-push}
 use Rattle.vault_types.specs.declared.JobConfig.{JobConfig}
 use Rattle.vault_types.specs.declared.Limits.{Limits}
@@ -13,7 +13,7 @@ use Rattle.vault_types.specs.declared.Line.{Line}
 use Rattle.vault_types.specs.declared.Line.TheVariants.{Backup}
 use Rattle.vault_types.specs.Cuts.{cuts}
 use Rattle.vault_types.specs.Shelf.{recipe_name, Stands}
-use Rattle.vault_types.specs.State.{State, is_full, latest_of, next_of}
+use Rattle.vault_types.specs.State.{State, IsValid, is_full, latest_of, next_of}
 use Rattle.vault_types.specs.Backup.{backup, stored}
 use Rattle.vault_types.specs.Events.{Core, Change, IsNear, after_refused}
 use Rattle.vault_types.specs.Script.{Sources, after, is_refused, is_store_fault}
@@ -27,12 +27,13 @@ use Rattle.keeper_core.specs.Calls.{IsShelfFault}
 use Rattle.script_laws.specs.Calls.{BacksUpLine}
 use Rattle.script_laws.specs.Causes.{CausesRise, counts_of_source, fits}
 use Rattle.script_laws.specs.Complete.{IsWell, IsWellAnswered}
-use Rattle.script_laws.specs.Leaves.{StandsForOne}
-use Rattle.script_laws.specs.Steps.{BearsStep, IsNextOther, ReachesFrom, StepsOn}
+use Rattle.script_laws.specs.Steps.{BearsStep, IsNextOther, StandsWith, StepsOn}
 use Rattle.script_laws.specs.Table.{MeansLine}
-use Rattle.script_laws.proofs.Following.{near_one}
+use Rattle.script_laws.proofs.Following.{near_with}
 use Rattle.script_laws.proofs.LineLemmas.{unmoved, full_is, full_means, not_full_means}
+use Rattle.vault_types.specs.declared.Pending.TheVariants as pending
 use Rattle.serial_delete.specs.Keeping.{IsStateOf, IsKnownStray}
+use Rattle.serial_delete.proofs.Keeping.{changed_of, images_of}
 use Rattle.serial_backup.specs.Backup.{BacksUp, IsRefused, IsBackupFault, MayBeHalf, after_backup, full_fault}
 use Rattle.backup_lines.proofs.Reading.{whole_read, too_many}
 use Rattle.backup_lines.proofs.Refusals.{own_number, kind_err, cause_err, exact_other, many_means}
@@ -43,29 +44,17 @@ module _ (sources : Sources) (S : State) (other : Option Change) (line : Line) w
   done_bears : (answer : Answer) (T : State) (old new : Option History) → T ≡ after sources S line answer → LeavesOnlyIfTold old new (λ c. IsNear S other c ⊎ Stands c T) → LeavesNowIfTold new (λ c. Stands c T)
       → BearsStep sources S other line answer None old new
   done_bears answer T old new is leaves behind = record {
-    any_moment = more (λ c. IsNear S other c ⊎ Stands c T) (StandsForOne May)
-        (λ c near. ⊎_elim (near_one S other May (inr (inl refl)) (λ U here. inl here) c) (λ stands. (T, inr (inr (inr is)), stands)) near) old new leaves;
+    any_moment = more (λ c. IsNear S other c ⊎ Stands c T) (λ c. StandsWith S other c ⊎ StandsWith (after sources S line answer) None c)
+        (λ c near. ⊎_elim (λ k. inl (near_with S other c k)) (λ stands. inr (inl (subst (Stands c) is stands))) near) old new leaves;
     behind = more_now (λ c. Stands c T) (IsNear (after sources S line answer) None) (λ c stands. inl (subst (Stands c) is stands)) new behind;
   }
-    where
-      May : State → Type 0
-      May = ReachesFrom sources S other (line ∷ []) (answer ∷ [])
 
-  refused_bears : (f : Fault) (next : Option Change) (old new : Option History) → ((T : State) → IsSomeAnd next (λ h. h.state ≡ T) → ReachesFrom sources S other (line ∷ []) (Refused f ∷ []) T)
-      → LeavesOnlyIfTold old new (λ c. IsNear S other c ⊎ IsNear S next c) → LeavesNowIfTold new (IsNear S next) → BearsStep sources S other line (Refused f) next old new
-  refused_bears f next old new reaches leaves behind = record {
-    any_moment = more (λ c. IsNear S other c ⊎ IsNear S next c) (StandsForOne May)
-        (λ c near. ⊎_elim (near_one S other May (inr (inl refl)) (λ U here. inl here) c) (near_one S next May (inr (inl refl)) reaches c) near) old new leaves;
+  refused_bears : (f : Fault) (next : Option Change) (old new : Option History) → LeavesOnlyIfTold old new (λ c. IsNear S other c ⊎ IsNear S next c) → LeavesNowIfTold new (IsNear S next) → BearsStep sources S other line (Refused f) next old new
+  refused_bears f next old new leaves behind = record {
+    any_moment = more (λ c. IsNear S other c ⊎ IsNear S next c) (λ c. StandsWith S other c ⊎ StandsWith S next c)
+        (λ c near. ⊎_elim (λ h. inl (near_with S other c h)) (λ h. inr (near_with S next c h)) near) old new leaves;
     behind = behind;
   }
-    where
-      May : State → Type 0
-      May = ReachesFrom sources S other (line ∷ []) (Refused f ∷ [])
-
--- the state of a change that is known
-state_of : (next : Option Change) (D T : State) → IsSomeAnd next (λ h. h.state ≡ D) → IsSomeAnd next (λ h. h.state ≡ T) → T ≡ D
-state_of None D T h k = absurd h
-state_of (Some x) D T h k = sym k ∙ h
 
 -- ---- the line, in a state that is kept
 
@@ -82,12 +71,12 @@ module _ (u v : View) (s : ℕ) (config : JobConfig) (limits : Limits) (from to 
   goes_from : (S : State) (other : Option Change) (a : Answer) (is : IsStateOf u S other) → Goes v is.core.state is.core.other a → Goes v S other a
   goes_from S other a is goes = subst (λ (T : State). Goes v T other a) is.state (subst (λ (o : Option Change). Goes v is.core.state o a) is.change goes)
 
-  module _ (left : from.left ≡ Some x) (can : IsCuttable config.cutting) (K : Core) (keeps : Keeps u K) (no_pins : K.pins ≡ []) (told : IsSome u.told.blobs) where
+  module _ (left : from.left ≡ Some x) (can : IsCuttable config.cutting) (K : Core) (keeps : Keeps u K) (no_pins : K.pins ≡ []) (told : IsSome u.told.blobs) (changed : IfSome K.other (λ h. IsValid h.state)) (images : u.pending ≡ pending.Not → LeavesNowIfTold u.told.history (IsNear K.state K.other)) where
     -- it was done
     done_goes : (a : Answer) → BacksUp s config limits u v from to (Ok a) → Goes v K.state K.other a
     done_goes a h = subst (λ (b : Answer). Goes v K.state K.other b) (sym is) (
       None,
-      record { core = after_backup s h.read config v.memo.strays v.pending K; keeps = h.done K keeps; state = same; change = refl; job = refl; pins = no_pins; told = h.tells told },
+      record { core = after_backup s h.read config v.memo.strays v.pending K; keeps = h.done K keeps; state = same; change = refl; job = refl; pins = no_pins; told = h.tells told; changed = tt; images = λ e. more_now (λ c. Stands c (backup K.state s h.read config)) (IsNear (after (λ _. x) K.state line (stored K.state s x config)) None) (λ c stands. inl (subst (Stands c) same stands)) v.told.history (h.crash_after K keeps) },
       record {
         means = record {
           done = inr refl;
@@ -100,7 +89,8 @@ module _ (u v : View) (s : ℕ) (config : JobConfig) (limits : Limits) (from to 
         next_other = inl refl;
         gets = (0, h.gets, refl);
         strays = record { later = h.store_later; others = []; few = λ below. omega arith; each = λ n known. inl (h.strays n known) };
-        crash = λ images. done_bears (λ _. x) K.state K.other line (stored K.state s x config) (backup K.state s h.read config) u.told.history v.told.history same (h.crash K keeps images) (h.crash_after K keeps images);
+        crash = λ images. done_bears (λ _. x) K.state K.other line (stored K.state s x config) (backup K.state s h.read config) u.told.history v.told.history same (h.crash K keeps images) (h.crash_after K keeps);
+        settles = λ done. more_now (λ c. Stands c (backup K.state s h.read config)) (λ c. Stands c (after (λ _. x) K.state line (stored K.state s x config))) (λ c stands. subst (Stands c) same stands) v.told.history (h.crash_after K keeps);
       },
     )
       where
@@ -124,7 +114,7 @@ module _ (u v : View) (s : ℕ) (config : JobConfig) (limits : Limits) (from to 
     full_goes : (f : Fault) → is_full K.state s limits ≡ true → K.job ≡ None → BacksUp s config limits u v from to (Err f) → Goes v K.state K.other (Refused f)
     full_goes f full no_job h = subst (λ (w : View). Goes w K.state K.other (Refused f)) (sym (h.full K keeps full).1) (subst (λ (g : Fault). Goes u K.state K.other (Refused g)) (sym (is (h.full K keeps full).0)) (
       K.other,
-      record { core = K; keeps = keeps; state = refl; change = refl; job = no_job; pins = no_pins; told = told },
+      record { core = K; keeps = keeps; state = refl; change = refl; job = no_job; pins = no_pins; told = told; changed = changed; images = images },
       unmoved limits (λ _. x) K.state K.other line (full_fault s K.state) (IsKnownStray u) u.told
           (full_means limits (λ _. x) K.state s [] config (latest_of K.state s) (next_of K.state) (sym full) refl refl)
           (inr (inl (full_fault s K.state, full_is limits K.state s [] config (latest_of K.state s) (next_of K.state) (sym full) refl refl, refl)))
@@ -140,7 +130,7 @@ module _ (u v : View) (s : ℕ) (config : JobConfig) (limits : Limits) (from to 
         → Goes v K.state K.other (Refused f)
     other_goes f h means complete others few among = (
       r.other,
-      record { core = after_refused r.other None v.memo.strays v.pending K; keeps = r.keeps; state = refl; change = refl; job = refl; pins = no_pins; told = h.tells told },
+      record { core = after_refused r.other None v.memo.strays v.pending K; keeps = r.keeps; state = refl; change = refl; job = refl; pins = no_pins; told = h.tells told; changed = r.changed changed; images = r.settled images },
       record {
         means = means;
         complete = complete;
@@ -153,7 +143,8 @@ module _ (u v : View) (s : ℕ) (config : JobConfig) (limits : Limits) (from to 
           each = λ n known. ⊎_elim (λ old. inl (inl old))
               (λ new. ⊎_elim (λ numbered. inl (inr numbered)) (λ recipe. inr (subst (λ (q : Name). Contains others q) (sym recipe.0) (among recipe.1))) new) (r.strays n known);
         };
-        crash = λ images. refused_bears (λ _. x) K.state K.other line f r.other u.told.history v.told.history (reaches r.half) (r.any_moment images) (r.behind images);
+        crash = λ images. refused_bears (λ _. x) K.state K.other line f r.other u.told.history v.told.history (r.any_moment images) (r.behind images);
+        settles = λ done. cc;
       },
     )
       where
@@ -170,12 +161,6 @@ module _ (u v : View) (s : ℕ) (config : JobConfig) (limits : Limits) (from to 
         next_of_half (inl same) = inr (inl (inl refl, same.0))
         next_of_half (inr (inl none)) = inl none
         next_of_half (inr (inr done)) = inr (inr (failed done.2, refl, is_state done.0 (whole_read from to x h.read left h.given done.1)))
-
-        reaches : MayBeHalf s config h.read from to K f r.other → (T : State) → IsSomeAnd r.other (λ k. k.state ≡ T) → ReachesFrom (λ _. x) K.state K.other (line ∷ []) (Refused f ∷ []) T
-        reaches (inl same) T here = inl (subst (λ (o : Option Change). IsSomeAnd o (λ k. k.state ≡ T)) same.0 here)
-        reaches (inr (inl none)) T here = absurd (subst (λ (o : Option Change). IsSomeAnd o (λ k. k.state ≡ T)) none here)
-        reaches (inr (inr done)) T here =
-            inr (inr (inl (failed done.2, refl, state_of r.other (backup K.state s x config) T (is_state done.0 (whole_read from to x h.read left h.given done.1)) here)))
 
     abbrev no_names : List Name
     no_names = []
@@ -233,13 +218,13 @@ backs_up_line u v s config limits from to (Ok a) core can h = record {
   done = ap is_refused (h.answer core.0 core.1);
   kind = kind_done limits core.0.state s h.read config a (h.answer core.0 core.1);
   causes = causes_done u v from to core.0.state s h.read config a (h.answer core.0 core.1) h.store_later h.source_later;
-  steps = λ S other x here left. goes_from u v s config limits from to x S other a here (done_goes u v s config limits from to x left can here.core here.keeps here.pins here.told a h);
+  steps = λ S other x here left. goes_from u v s config limits from to x S other a here (done_goes u v s config limits from to x left can here.core here.keeps here.pins here.told (changed_of u S other here) (images_of u S other here) a h);
   to_the_end = h.to_the_end;
 }
 backs_up_line u v s config limits from to (Err f) core can h = record {
   done = tt;
   kind = kind_err limits s config u v from to h.read core.0 f (h.causes core.0 core.1);
   causes = cause_err s config limits u v from to h.read h.store_later h.source_later core.0 f (h.causes core.0 core.1);
-  steps = λ S other x here left. goes_from u v s config limits from to x S other (Refused f) here (refused_goes u v s config limits from to x left can here.core here.keeps here.pins here.told f here.job h);
+  steps = λ S other x here left. goes_from u v s config limits from to x S other (Refused f) here (refused_goes u v s config limits from to x left can here.core here.keeps here.pins here.told (changed_of u S other here) (images_of u S other here) f here.job h);
   to_the_end = tt;
 }

@@ -119,7 +119,7 @@ module _ (words : List (List ℕ)) (limits : Limits) (before now : World) (answe
   ended None h = absurd h
   ended (Some f) h = (h.none, ap (λ (g : Fault). Some g) (early f h.why))
 
-  ran : (d : Command) (f : Option Fault) → IsBuilt d → Runs Unbuilt d limits before now answers f → f ≡ None
+  ran : (d : Command) (f : Option Fault) → IsBuilt d → Runs true Unbuilt d limits before now answers f → f ≡ None
   ran (command.Backup s config q l None) f built r = printed (report_text answers) before.out now.out f none.out.0 none.out.1 r.printed
   ran (command.Backup s config q l (Some p)) f built r = absurd built
   ran (command.Restore s v cache None) f built r = printed (report_text answers) before.report now.report f none.report.0 none.report.1 r.printed
@@ -135,8 +135,8 @@ module _ (words : List (List ℕ)) (limits : Limits) (before now : World) (answe
   ran command.Migrate f built r = printed (report_text answers) before.out now.out f none.out.0 none.out.1 r.printed
   ran (command.Scrub a) f built r = absurd built
 
-pub completes : (words : List (List ℕ)) (limits : Limits) (before now : World) (answers : List Answer) (f : Option Fault) (status : ℕ) → IsRun Unbuilt words limits before now answers f status → IsCompleteRun words limits before now answers f
+pub completes : (words : List (List ℕ)) (limits : Limits) (before now : World) (answers : List Answer) (f : Option Fault) (status : ℕ) → IsRun true Unbuilt words limits before now answers f status → IsCompleteRun words limits before now answers f
 completes words limits before now answers f status run c S is built can told begins sound none = ⊎_elim
     (λ e. inr (ended words limits before now answers c S is can told begins sound none f e))
-    (λ r. inl (ran words limits before now answers c S is can told begins sound none c f built (subst (λ (o : Option Command). IsSomeAnd o (λ d. Runs Unbuilt d limits before now answers f)) is r)))
+    (λ r. inl (ran words limits before now answers c S is can told begins sound none c f built (subst (λ (o : Option Command). IsSomeAnd o (λ d. Runs true Unbuilt d limits before now answers f)) is r)))
     run.course

@@ -1,4 +1,5 @@
 -- A run from the opening of the shelf on, and that of a script.
+use Rattle.std.specs.Prelude.{true}
 use Rattle.std.specs.Prelude.{◌≡◌, ◌⊎◌, ℕ, List, [], Option, IsSomeAnd, IfSome}
 use Rattle.vault_types.specs.declared.Limits.{Limits}
 use Rattle.vault_types.specs.declared.Line.{Line}
@@ -29,7 +30,7 @@ pub record RunsScript (limits : Limits) (before now : World) (answers : List Ans
   pub lines : List Line
   pub script : IsScript limits before.input lines
   pub read : IfSome input.left (λ rest. rest ≡ [])
-  pub goes : IsSomeAnd f (EndsAtOpening (with_input before input) now answers) ⊎ RanLines lines limits (with_input before input) now answers f
+  pub goes : IsSomeAnd f (EndsAtOpening (with_input before input) now answers) ⊎ RanLines true lines limits (with_input before input) now answers f
 
 pub record BatchGoes (limits : Limits) (before now : World) (answers : List Answer) (f : Option Fault) (status : ℕ) : Type 0 where
   pub course : IsSomeAnd f (RefusesScript limits before now answers) ⊎ RunsScript limits before now answers f

@@ -1,5 +1,5 @@
 // The script of `fill`, over places of its own.
-ghost use Rattle.std.specs.Prelude.{◌≡◌, ◌≤◌, IsSome, IfOk, IfErr};
+ghost use Rattle.std.specs.Prelude.{true, ◌≡◌, ◌≤◌, IsSome, IfOk, IfErr};
 ghost use Rattle.std.specs.List.{AllByRecursion};
 ghost use Rattle.vault_types.specs.Generator.{fill_lines};
 ghost use Rattle.vault_types.specs.Script.{Sources};
@@ -52,7 +52,7 @@ fn run_over<S: Shelf, K: ShelfStore<S>, Q: Places>(
     requires apart { AreApartLines lines.now }
     requires ranges { AllByRecursion IsLineInRange lines.now }
     requires limits { AreLimits limits.now }
-    ensures runs { IfOk result (λ done. RunsLines (Begins (S.told shelf)) (StraysOf (S.told shelf)) limits.now lines.now done.0.items (S.told shelf) (S.told done.1) (Q.told places.old) (Q.told places.new)) }
+    ensures runs { IfOk result (λ done. RunsLines true (Begins (S.told shelf)) (StraysOf (S.told shelf)) limits.now lines.now done.0.items (S.told shelf) (S.told done.1) (Q.told places.old) (Q.told places.new)) }
     ensures room { IfOk result (λ done. (T : State) (sources : Sources) → Begins (S.told shelf) T → AreFedBy (Q.told places.old).files sources lines.now → IsSome (Q.told places.old).files → NeedRoom Q.room sources T lines.now done.0.items) }
     ensures err { IfErr result (λ e. IsSameBut (S.told shelf) (S.told e.1) × IsStartFault (S.told shelf) (S.told e.1) e.0) }
 {
@@ -83,7 +83,7 @@ pub(crate) fn run_fill<S: Shelf, K: ShelfStore<S>, P: Places, I: Source, O: Sink
 ) -> Ended<S, I, O>
     requires few { versions ≤ 64 }
     requires limits { AreLimits limits.now }
-    ensures { GoesOn (RunsFill seed versions limits.now)
+    ensures { GoesOn (RunsFill true seed versions limits.now)
         (record { shelf = S.told shelf; places = P.told places.now; input = I.told input; out = O.told out; report = R.told report.old })
         (record { shelf = S.told result.shelf; places = P.told places.now; input = I.told result.input; out = O.told result.out; report = R.told report.new })
         result.answers.items result.fault result.status }

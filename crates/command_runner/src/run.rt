@@ -1,5 +1,5 @@
 // A run of the program's words.
-ghost use Rattle.std.specs.Prelude.{map, string_bytes};
+ghost use Rattle.std.specs.Prelude.{true, map, string_bytes};
 ghost use Rattle.run_laws.specs.Run.{IsRun};
 ghost use Rattle.word_ranges.specs.Ranges.{AreLimits};
 ghost use Rattle.command_runner.specs.Unbuilt.{Unbuilt};
@@ -31,7 +31,7 @@ fn run_command<S: Shelf, K: ShelfStore<S>, P: Places, I: Source, O: Sink, R: Sin
     report: &mut R,
 ) -> Ended<S, I, O>
     requires { AreLimits limits.now }
-    ensures { IsRun Unbuilt (map string_bytes words.now) limits.now
+    ensures { IsRun true Unbuilt (map string_bytes words.now) limits.now
         (record { shelf = S.told shelf; places = P.told places.old; input = I.told input; out = O.told out; report = R.told report.old })
         (record { shelf = S.told result.shelf; places = P.told places.new; input = I.told result.input; out = O.told result.out; report = R.told report.new })
         result.answers.items result.fault result.status }
@@ -138,7 +138,7 @@ pub fn run_words<S: Shelf, K: ShelfStore<S>, P: Places, I: Source, O: Sink, R: S
     report: &mut R,
 ) -> Ended<S, I, O>
     requires { AreLimits limits.now }
-    ensures run { IsRun Unbuilt (map string_bytes words.now) limits.now
+    ensures run { IsRun true Unbuilt (map string_bytes words.now) limits.now
         (record { shelf = S.told shelf; places = P.told places.old; input = I.told input; out = O.told out; report = R.told report.old })
         (record { shelf = S.told result.shelf; places = P.told places.new; input = I.told result.input; out = O.told result.out; report = R.told report.new })
         result.answers.items result.fault result.status }

@@ -1,4 +1,5 @@
 // The lines of a script.
+ghost use Rattle.std.specs.Prelude.{true};
 ghost use Rattle.std.specs.List.{AllByRecursion};
 ghost use Rattle.script_laws.specs.Outputs.{AreApartLines};
 ghost use Rattle.run_laws.specs.Run.{RanLines};
@@ -27,7 +28,7 @@ pub(crate) fn run_lines<S: Shelf, K: ShelfStore<S>, P: Places, I: Source, O: Sin
     requires apart { AreApartLines lines.now }
     requires ranges { AllByRecursion IsLineInRange lines.now }
     requires limits { AreLimits limits.now }
-    ensures { GoesOn (RanLines lines.now limits.now)
+    ensures { GoesOn (RanLines true lines.now limits.now)
         (record { shelf = S.told shelf; places = P.told places.old; input = I.told input; out = O.told out; report = R.told report.old })
         (record { shelf = S.told result.shelf; places = P.told places.new; input = I.told result.input; out = O.told result.out; report = R.told report.new })
         result.answers.items result.fault result.status }

@@ -162,6 +162,7 @@ module _ (K : Core) (job : Job) (r : Recipe) (core : IsCore K) (can : CanCommit 
     kind = inl (refl, floor_same K.state job.set version job.containers core.state can.in_range job.set);
     containers = λ c among. ⊎_elim (λ old. inl old) (λ new. inr (all_at (λ (c : Container). next_of K.state ≤ c.table.id) job.containers c (job_low K job core can.open_job) new)) (Contains-append_cases K.state.containers job.containers c among);
     sets = length-set K.state.datasets job.set (more_of (dataset K.state job.set) version);
+    valid = grown_valid;
   }
 
 module _ (K : Core) (job : Job) (r : Recipe) (k : KeptVersion) (core : IsCore K) (can : CanCommit K job r) (is : k ≡ version_in_recipe (K.state.containers ++ job.containers) r) where

@@ -149,12 +149,13 @@ module _ (S : State) (s n : ℕ) (valid : IsValid S) (below : s < length S.datas
       was None e some = absurd (let f : ◌≡◌ {A = Option KeptVersion} None None = refl in cc)
   needed_was more q (inr (inr is)) = inr (inr (record { set = is.set; in_range = omega (arith, sets_same, is.in_range); is = is.is }))
 
-  pub is_delete : IsChange S s (delete_change s n S)
-  is_delete = record {
+  pub is_delete : IsValid (delete S s n) → IsChange S s (delete_change s n S)
+  is_delete shrunk_too = record {
     in_range = below;
     kind = inr (refl, λ needed. next_unneeded S [] s valid (needed_was [] _ needed));
     containers = λ c among. inl (filter_within (λ c. has c.table.id (named (delete S s n))) S.containers c among);
     sets = sets_same;
+    valid = shrunk_too;
   }
 
 -- a deletion, behind the floor's write

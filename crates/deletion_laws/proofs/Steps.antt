@@ -19,6 +19,7 @@ use Rattle.vault_traits.specs.Crash.{History, LeavesOnlyIfTold}
 use Rattle.vault_traits.proofs.Moments.{more}
 use Rattle.deletion_laws.specs.Deleting.{Deletes, IsDeleting}
 use Rattle.deletion_laws.proofs.Shrinking.{delete_changes, delete_held, delete_cleans, is_delete}
+use Rattle.deletion_laws.proofs.Keeping.{delete_valid}
 
 -- the floor of the set is written, and nothing else was half done
 
@@ -85,7 +86,7 @@ half_core K s n core below low = record {
   numbers = core.numbers;
   alone = λ some. absurd (no_job some);
   failed = λ t is. subst (λ (u : ℕ). u < length K.state.datasets) (same_set s t is) below;
-  other = (s, refl, is_delete K.state s n core.state below low);
+  other = (s, refl, is_delete K.state s n core.state below low (delete_valid K.state s n core.state below low));
 }
   where
     no_job : IsSome {T = Job} None → ⊥

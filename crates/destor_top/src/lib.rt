@@ -2,7 +2,7 @@
 //! command, and prints what came of it.
 #![tactic(auto)]
 
-ghost use Rattle.std.specs.Prelude.{◌≤◌, map, string_bytes};
+ghost use Rattle.std.specs.Prelude.{true, ◌≤◌, map, string_bytes};
 ghost use Rattle.run_laws.specs.Run.{IsRun};
 ghost use Rattle.command_runner.specs.Completes.{IsCompleteRun};
 ghost use Rattle.command_runner.specs.Unbuilt.{Unbuilt};
@@ -40,7 +40,7 @@ pub fn run_plain<S: Shelf, P: Places, I: Source + Send, O: Sink + Send, R: Sink>
     requires last_high { limits.now.last ≤ 4294967294 }
     requires script { 1 ≤ limits.now.script }
     requires script_high { limits.now.script ≤ 1048576 }
-    ensures run { IsRun Unbuilt (map string_bytes words.now) limits.now
+    ensures run { IsRun true Unbuilt (map string_bytes words.now) limits.now
         (record { shelf = S.told shelf; places = P.told places.old; input = I.told input; out = O.told out; report = R.told report.old })
         (record { shelf = S.told result.shelf; places = P.told places.new; input = I.told result.input; out = O.told result.out; report = R.told report.new })
         result.answers.items result.fault result.status }

@@ -66,6 +66,12 @@ mended_now K Not old mid alone moment sure = subst (λ (o : Option Change). Leav
 mended_now K Opened old mid alone moment sure = sure (λ e. cc)
 mended_now K (FailedFor s) old mid alone moment sure = sure (λ e. cc)
 
+-- the same where what a crash could leave before is known only if no mending was due
+pub mended_sure : (K : Core) (waits : Pending) (old mid : Option History) → (waits ≡ Not → K.other ≡ None) → (waits ≡ Not → LeavesOnlyIfTold old mid (IsNear K.state K.other)) → (waits ≢ Not → LeavesNowIfTold mid (IsNear K.state None)) → LeavesNowIfTold mid (IsNear K.state None)
+mended_sure K Not old mid alone moment sure = mended_now K Not old mid alone (moment refl) sure
+mended_sure K Opened old mid alone moment sure = sure (λ e. cc)
+mended_sure K (FailedFor s) old mid alone moment sure = sure (λ e. cc)
+
 module _ (v : View) (K : Core) (keeps : Keeps v K) (none : v.job ≡ None) (s n : ℕ) (below : s < length K.state.datasets) (low : n < latest_of K.state s) where
   pub core_job : K.job ≡ None
   core_job = no_job K.state K.job (sym keeps.job ∙ none)

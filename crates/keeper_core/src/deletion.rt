@@ -44,10 +44,11 @@ impl<S: Shelf> Keeper<S> {
         ensures tells { IsSome self.old.told.blobs → IsSome self.new.told.blobs }
 
         // A crash at any moment leaves what it could leave before, or the state before or behind the deletion; at `Ok`
-        // only the one behind it.
+        // only the one behind it, whatever could be left before where a mending was due. No refusal ends a mending.
         ensures any_moment { (K : Core) → Keeps self.old K → LeavesNowIfTold self.old.told.history (IsNear K.state K.other)
             → LeavesOnlyIfTold self.old.told.history self.new.told.history (λ c. IsNear K.state K.other c ⊎ IsDeleting K.state set through c) }
-        ensures acknowledged { OnOk result ((K : Core) → Keeps self.old K → LeavesNowIfTold self.old.told.history (IsNear K.state K.other) → LeavesNowIfTold self.new.told.history (IsNear (delete K.state set through) None)) }
+        ensures acknowledged { OnOk result ((K : Core) → Keeps self.old K → (self.old.pending ≡ Pending.Not → LeavesNowIfTold self.old.told.history (IsNear K.state K.other)) → LeavesNowIfTold self.new.told.history (IsNear (delete K.state set through) None)) }
+        ensures due { OnErr result (self.new.pending ≡ Pending.Not → self.old.pending ≡ Pending.Not) }
 
         // At most one name is left for each removal that failed.
         ensures few { OnOk result (self.new.told.faults < 2 ^ 64 - 1 → length self.new.memo.strays + self.old.told.faults ≤ self.new.told.faults) }

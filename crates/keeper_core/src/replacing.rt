@@ -46,10 +46,13 @@ impl<S: Shelf> Keeper<S> {
             → (blob_at self.new.told.blobs (recipe_name set version) ≡ blob_at self.old.told.blobs (recipe_name set version)) ⊎ (blob_at self.new.told.blobs (recipe_name set version) ≡ Some (recipe_bytes_2 k.sum (recipe_of set version k))) }
         ensures tells { IsSome self.old.told.blobs → IsSome self.new.told.blobs }
 
-        // A crash at any moment leaves what it could leave before; at `Ok` only the state.
+        // A crash at any moment leaves what it could leave before; at `Ok` only the state, and so where no mending is due
+        // behind the call.
         ensures any_moment { (K : Core) → Keeps self.old K → LeavesNowIfTold self.old.told.history (IsNear K.state K.other)
             → LeavesOnlyIfTold self.old.told.history self.new.told.history (IsNear K.state K.other) }
         ensures acknowledged { OnOk result ((K : Core) → Keeps self.old K → LeavesNowIfTold self.new.told.history (IsNear K.state None)) }
+        ensures settled { (K : Core) → Keeps self.old K → (self.old.pending ≡ Pending.Not → LeavesNowIfTold self.old.told.history (IsNear K.state K.other)) → self.new.pending ≡ Pending.Not
+            → LeavesNowIfTold self.new.told.history (IsNear K.state None) }
         ensures due { IfErr result (λ f. IsDueAfter f set self.old.pending self.new.pending) }
         ensures not_due { OnOk result (self.new.pending ≡ Pending.Not) }
         ensures same { (self.new.memo ≡ self.old.memo) × (self.new.index ≡ self.old.index) × (self.new.pins ≡ self.old.pins) × (self.new.job ≡ self.old.job) }

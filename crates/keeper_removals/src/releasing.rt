@@ -1,5 +1,5 @@
 //! The release of a pin.
-ghost use Rattle.std.specs.Prelude.{◌≡◌, ◌≤◌, ◌<◌, ◌+◌, ◌-◌, ◌*◌, ◌^◌, ◌&&◌, ◌⊎◌, not, List, length, vec_capacity, nat_eq, IsTrue, IsSome, Contains};
+ghost use Rattle.std.specs.Prelude.{◌≡◌, ◌≤◌, ◌<◌, ◌+◌, ◌-◌, ◌*◌, ◌^◌, ◌&&◌, ◌⊎◌, ◌++◌, not, List, length, vec_capacity, nat_eq, IsTrue, IsSome, Contains};
 ghost use Rattle.vault_types.specs.declared.Name.{Name as Named};
 ghost use Rattle.vault_types.specs.Lists.{has};
 ghost use Rattle.vault_types.specs.Marks.{Mark, marked_ids};
@@ -83,6 +83,7 @@ pub fn release_pin<S: Shelf>(shelf: &mut S, catalog: &mut Catalog, pins: &mut Pi
     // Each stray was one before or is a name that the release leaves, and at most one is left for each failure.
     ensures within { (K : Core) → Releasing (memo_of catalog.old) pins.old K → (n : Named) → Contains catalog.new.strays.items n → Contains catalog.old.strays.items n ⊎ IsReleased K no n }
     ensures few { (S.told shelf.new).faults < 2 ^ 64 - 1 → length catalog.new.strays.items + (S.told shelf.old).faults ≤ length catalog.old.strays.items + (S.told shelf.new).faults }
+    ensures added { (added : List Named) × (catalog.new.strays.items ≡ catalog.old.strays.items ++ added) }
     ensures room { HasRoom (memo_of catalog.new) }
     ensures tells { IsSome (S.told shelf.old).blobs → IsSome (S.told shelf.new).blobs }
     ensures gets { (S.told shelf.new).gets ≡ (S.told shelf.old).gets }

@@ -5,7 +5,7 @@ use Rattle.std.proofs.lemmas.Bool.{false≢true}
 use Rattle.vault_types.specs.declared.Name.{Name}
 use Rattle.vault_types.specs.declared.Pending.{Pending}
 use Rattle.vault_types.specs.declared.Pending.TheVariants as pending
-use Rattle.vault_types.specs.State.{State}
+use Rattle.vault_types.specs.State.{State, IsValid}
 use Rattle.vault_types.specs.Shelf.{Blobs}
 use Rattle.vault_types.specs.Events.{Core, Change, Pin, pinned_containers, IsChange, IsNear, IsNeeded}
 use Rattle.keeper_parts.specs.Parts.{HeldIfTold}
@@ -26,10 +26,12 @@ change_of_set (Some h) waits S is = (is.0, is.2)
 pub kept_of : (v : View) (S : State) (other : Option Change) → IsStateOf v S other → IsKept v.told S other
 kept_of v S other is =
     let K : Core = is.core in
+    let changed : IfSome K.other (λ h. IsValid h.state) = subst (λ (o : Option Change). IfSome o (λ h. IsValid h.state)) (sym is.change) is.changed in
     let here : IsKept v.told K.state K.other = record {
       blobs = near_told v.told.blobs K is.told is.keeps.held;
       valid = is.keeps.core.state;
       change = change_of_set K.other K.pending K.state is.keeps.core.other;
+      changed = changed;
     } in
     subst (λ (T : State). IsKept v.told T other) is.state (subst (λ (o : Option Change). IsKept v.told K.state o) is.change here)
 

@@ -1,11 +1,12 @@
 -- No line of `fill` meets a failure of its places, but one of a sink.
-use Rattle.std.proofs.Common.{◌≡◌, ◌≤◌, ℕ, List, [], ◌∷◌, Option, refl, subst, arith}
+use Rattle.std.proofs.Common.{◌≡◌, ◌≤◌, ℕ, Bool, List, [], ◌∷◌, length, Option, refl, sym, ◌∙◌, ap, subst, arith}
 use Rattle.std.specs.List.{filter_map}
 use Rattle.vault_types.specs.declared.Limits.{Limits}
 use Rattle.vault_types.specs.declared.Fault.{Fault}
 use Rattle.vault_types.specs.declared.Answer.{Answer}
 use Rattle.vault_traits.specs.Counts.{counted, RiseFrom}
-use Rattle.script_laws.specs.Causes.{place_number, read_number}
+use Rattle.script_laws.specs.Causes.{RiseInSomeOrder, place_number, read_number}
+use Rattle.std.proofs.lemmas.List.Sorted.{length_permutation}
 use Rattle.run_laws.specs.World.{World}
 use Rattle.run_laws.specs.Filling.{RunsFill}
 
@@ -20,11 +21,17 @@ none_rose (n ∷ ns) rise =
     let rest : n ≤ 0 = later n ns 0 rise.1 in
     absurd (omega (arith, first, rest))
 
-still : (before now : ℕ) (ns : List ℕ) → before ≡ 0 → now ≡ 0 → RiseFrom before ns now → ns ≡ []
-still before now ns none zero rise = none_rose ns (subst (λ (n : ℕ). RiseFrom 0 ns n) zero (subst (λ (n : ℕ). RiseFrom n ns now) none rise))
+still : (before now : ℕ) (ns : List ℕ) → before ≡ 0 → now ≡ 0 → RiseInSomeOrder before ns now → ns ≡ []
+still before now ns none zero (ms, are, rise) =
+    let all : ms ≡ [] = none_rose ms (subst (λ (n : ℕ). RiseFrom 0 ms n) zero (subst (λ (n : ℕ). RiseFrom n ms now) none rise)) in
+    no_length ns (sym (length_permutation ns ms are) ∙ ap (λ (xs : List ℕ). length xs) all)
+  where
+    no_length : (xs : List ℕ) → length xs ≡ 0 → xs ≡ []
+    no_length [] e = refl
+    no_length (x ∷ xs) e = absurd (omega (arith, e))
 
-pub no_fault : (seed versions : ℕ) (limits : Limits) (before now : World) (answers : List Answer) (f : Option Fault) → RunsFill seed versions limits before now answers f → (filter_map place_number answers ≡ []) × (filter_map read_number answers ≡ [])
-no_fault seed versions limits before now answers f r = (
+pub no_fault : (in_order : Bool) (seed versions : ℕ) (limits : Limits) (before now : World) (answers : List Answer) (f : Option Fault) → RunsFill in_order seed versions limits before now answers f → (filter_map place_number answers ≡ []) × (filter_map read_number answers ≡ [])
+no_fault in_order seed versions limits before now answers f r = (
   still r.made.faults r.left.faults (filter_map place_number answers) r.generated.opened r.opened r.runs.causes.place,
   still r.made.read_faults r.left.read_faults (filter_map read_number answers) r.generated.read r.read r.runs.causes.read,
 )

@@ -1,5 +1,5 @@
 -- A run that ends where the shelf is opened ends early; and one of a script that was read.
-use Rattle.std.proofs.Common.{◌≡◌, ◌⊎◌, inl, inr, ⊎_elim, ℕ, List, [], Option, Some, None, sym, ◌∙◌, subst}
+use Rattle.std.proofs.Common.{Bool, ◌≡◌, ◌⊎◌, inl, inr, ⊎_elim, ℕ, List, [], Option, Some, None, sym, ◌∙◌, subst}
 use Rattle.std.specs.Prelude.{IsSomeAnd, IfSome}
 use Rattle.vault_types.specs.declared.Limits.{Limits}
 use Rattle.vault_types.specs.declared.Command.{Command}
@@ -58,15 +58,15 @@ module _ (words : List (List ℕ)) (limits : Limits) (before now : World) (input
     line = h.line;
   }
 
-  pub batch_run : (lines : List Line) (f : Option Fault) (queue lanes workers : ℕ) → command_of words ≡ Some (command.Batch queue lanes workers) → IsScript limits before.input lines → IfSome input.left (λ rest. rest ≡ [])
-      → IsSomeAnd f (EndsAtOpening (with_input before input) now answers) ⊎ RanLines lines limits (with_input before input) now answers f
-      → IsSomeAnd f (EndsEarly words limits before now answers) ⊎ RunsBatch limits before now answers f
-  batch_run lines f queue lanes workers is script read (inl ended) = inl (at f ended)
+  pub batch_run : (in_order : Bool) (lines : List Line) (f : Option Fault) (queue lanes workers : ℕ) → command_of words ≡ Some (command.Batch queue lanes workers) → IsScript limits before.input lines → IfSome input.left (λ rest. rest ≡ [])
+      → IsSomeAnd f (EndsAtOpening (with_input before input) now answers) ⊎ RanLines in_order lines limits (with_input before input) now answers f
+      → IsSomeAnd f (EndsEarly words limits before now answers) ⊎ RunsBatch in_order limits before now answers f
+  batch_run in_order lines f queue lanes workers is script read (inl ended) = inl (at f ended)
     where
       at : (f : Option Fault) → IsSomeAnd f (EndsAtOpening (with_input before input) now answers) → IsSomeAnd f (EndsEarly words limits before now answers)
       at None h = absurd h
       at (Some f) h = ends f (subst (λ (o : Option Command). CanOpen o limits before.input) (sym is) (lines, script)) (inl (subst (λ (o : Option Command). IsBatch o) (sym is) tt)) h
-  batch_run lines f queue lanes workers is script read (inr ran) = inr (record {
+  batch_run in_order lines f queue lanes workers is script read (inr ran) = inr (record {
     lines = lines;
     script = script;
     read = subst (λ (s : SourceTold). IfSome s.left (λ rest. rest ≡ [])) (sym ran.input) read;

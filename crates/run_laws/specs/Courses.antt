@@ -23,11 +23,11 @@ use Rattle.run_laws.specs.World.{World, IsPrinted, TakesFront, report_text}
 use Rattle.run_laws.specs.Early.{IsScript}
 
 -- a script of the input's lines over the places; the report is on `out`
-pub record RunsBatch (limits : Limits) (before now : World) (answers : List Answer) (f : Option Fault) : Type 0 where
+pub record RunsBatch (in_order : Bool) (limits : Limits) (before now : World) (answers : List Answer) (f : Option Fault) : Type 0 where
   pub lines : List Line
   pub script : IsScript limits before.input lines
   pub read : IfSome now.input.left (λ rest. rest ≡ [])
-  pub runs : RunsLines (Begins before.shelf) (StraysOf before.shelf) limits lines answers before.shelf now.shelf before.places now.places
+  pub runs : RunsLines in_order (Begins before.shelf) (StraysOf before.shelf) limits lines answers before.shelf now.shelf before.places now.places
   pub printed : IsPrinted (report_text answers) before.out now.out f
   pub report : now.report ≡ before.report
 

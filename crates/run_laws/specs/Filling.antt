@@ -1,5 +1,5 @@
 -- A run of `fill`, from its first line on.
-use Rattle.std.specs.Prelude.{◌≡◌, ◌≤◌, ℕ, List, [], ◌∷◌, ◌++◌, codes, decimal, unwrap_or, Option, Some, IsSomeAnd}
+use Rattle.std.specs.Prelude.{◌≡◌, ◌≤◌, ℕ, Bool, List, [], ◌∷◌, ◌++◌, codes, decimal, unwrap_or, Option, Some, IsSomeAnd}
 use Rattle.vault_types.specs.declared.Limits.{Limits}
 use Rattle.vault_types.specs.declared.Fault.{Fault}
 use Rattle.vault_types.specs.declared.Answer.{Answer}
@@ -37,13 +37,13 @@ pub record AreGenerated (seed versions : ℕ) (places : PlacesTold) : Type 0 whe
 
 -- the script of `fill` over places of its own, none of which fails to be opened or read, and whose sinks have room for the
 -- longest version of the generator; the report and the sums of the outputs are on `out`
-pub record RunsFill (seed versions : ℕ) (limits : Limits) (before now : World) (answers : List Answer) (f : Option Fault) : Type 0 where
+pub record RunsFill (in_order : Bool) (seed versions : ℕ) (limits : Limits) (before now : World) (answers : List Answer) (f : Option Fault) : Type 0 where
   pub made : PlacesTold
   pub left : PlacesTold
   pub generated : AreGenerated seed versions made
   pub opened : left.faults ≡ 0
   pub read : left.read_faults ≡ 0
-  pub runs : RunsLines (Begins before.shelf) (StraysOf before.shelf) limits (fill_lines versions) answers before.shelf now.shelf made left
+  pub runs : RunsLines in_order (Begins before.shelf) (StraysOf before.shelf) limits (fill_lines versions) answers before.shelf now.shelf made left
   pub room : (S : State) (sources : Sources) → Begins before.shelf S → AreFedBy made.files sources (fill_lines versions) → NeedRoom (Some 8388671) sources S (fill_lines versions) answers
   pub printed : IsSomeAnd left.files (λ files. IsPrinted (report_text answers ++ outputs_text files (fill_lines versions) answers) before.out now.out f)
   pub report : now.report ≡ before.report

@@ -1,5 +1,5 @@
 -- A run of the program's words.
-use Rattle.std.specs.Prelude.{◌≡◌, ◌⊎◌, ◌<◌, ◌^◌, ◌-◌, ℕ, List, [], Option, None, IsSomeAnd}
+use Rattle.std.specs.Prelude.{◌≡◌, ◌⊎◌, ◌<◌, ◌^◌, ◌-◌, ℕ, Bool, List, [], Option, None, IsSomeAnd}
 use Rattle.vault_types.specs.declared.Limits.{Limits}
 use Rattle.vault_types.specs.declared.Command.{Command}
 use Rattle.vault_types.specs.declared.Command.TheVariants as command
@@ -23,19 +23,19 @@ Course = Limits → World → World → List Answer → Option Fault → Type 0
 
 -- the scripts from words, from the input and of `fill`, `show` and `migrate`. What the other commands do is given: a backup with
 -- the sampled index, a restore by areas, and `scrub`
-abbrev pub Runs : (Command → Course) → Command → Course
-Runs Others (command.Backup set config queue lanes None) limits before now answers f = RunsBackup set config limits before now answers f
-Runs Others (command.Restore set version cache None) limits before now answers f = RunsRestore set version cache limits before now answers f
-Runs Others (command.Delete set through) limits before now answers f = RunsDelete set through limits before now answers f
-Runs Others (command.Show set version) limits before now answers f = RunsShow set version before now answers f
-Runs Others (command.Batch queue lanes workers) limits before now answers f = RunsBatch limits before now answers f
-Runs Others (command.Fill seed versions queue lanes workers) limits before now answers f = RunsFill seed versions limits before now answers f
-Runs Others command.Migrate limits before now answers f = RunsMigrate before now answers f
-Runs Others other limits before now answers f = Others other limits before now answers f
+abbrev pub Runs : Bool → (Command → Course) → Command → Course
+Runs in_order Others (command.Backup set config queue lanes None) limits before now answers f = RunsBackup set config limits before now answers f
+Runs in_order Others (command.Restore set version cache None) limits before now answers f = RunsRestore set version cache limits before now answers f
+Runs in_order Others (command.Delete set through) limits before now answers f = RunsDelete set through limits before now answers f
+Runs in_order Others (command.Show set version) limits before now answers f = RunsShow set version before now answers f
+Runs in_order Others (command.Batch queue lanes workers) limits before now answers f = RunsBatch in_order limits before now answers f
+Runs in_order Others (command.Fill seed versions queue lanes workers) limits before now answers f = RunsFill in_order seed versions limits before now answers f
+Runs in_order Others command.Migrate limits before now answers f = RunsMigrate before now answers f
+Runs in_order Others other limits before now answers f = Others other limits before now answers f
 
 -- a run of the words: it ends before its first line, with a fault that has its cause, or it runs as the command says
-pub record IsRun (Others : Command → Course) (words : List (List ℕ)) (limits : Limits) (before now : World) (answers : List Answer) (f : Option Fault) (status : ℕ) : Type 0 where
-  pub course : IsSomeAnd f (EndsEarly words limits before now answers) ⊎ IsSomeAnd (command_of words) (λ c. Runs Others c limits before now answers f)
+pub record IsRun (in_order : Bool) (Others : Command → Course) (words : List (List ℕ)) (limits : Limits) (before now : World) (answers : List Answer) (f : Option Fault) (status : ℕ) : Type 0 where
+  pub course : IsSomeAnd f (EndsEarly words limits before now answers) ⊎ IsSomeAnd (command_of words) (λ c. Runs in_order Others c limits before now answers f)
   pub status_is : status ≡ status_after answers f
 
 -- no count of faults of what was handed in rose, or stands at its last value
@@ -63,8 +63,8 @@ pub record EndsAtOpening (before now : World) (answers : List Answer) (f : Fault
   pub line : IsTold f before.report now.report
 
 -- lines that ran over the places, with the report on `out`
-pub record RanLines (lines : List Line) (limits : Limits) (before now : World) (answers : List Answer) (f : Option Fault) : Type 0 where
-  pub runs : RunsLines (Begins before.shelf) (StraysOf before.shelf) limits lines answers before.shelf now.shelf before.places now.places
+pub record RanLines (in_order : Bool) (lines : List Line) (limits : Limits) (before now : World) (answers : List Answer) (f : Option Fault) : Type 0 where
+  pub runs : RunsLines in_order (Begins before.shelf) (StraysOf before.shelf) limits lines answers before.shelf now.shelf before.places now.places
   pub printed : IsPrinted (report_text answers) before.out now.out f
   pub report : now.report ≡ before.report
   pub input : now.input ≡ before.input

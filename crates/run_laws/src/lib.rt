@@ -3,7 +3,7 @@
 //! words.
 #![tactic(auto)]
 
-ghost use Rattle.std.specs.Prelude.{◌≡◌, ◌⊎◌, ℕ, List, [], ◌∷◌, Option, Some, None, IfSome, IsSomeAnd, Result};
+ghost use Rattle.std.specs.Prelude.{◌≡◌, ◌⊎◌, ℕ, Bool, List, [], ◌∷◌, Option, Some, None, IfSome, IsSomeAnd, Result};
 ghost use Rattle.std.specs.List.{filter_map};
 ghost use Rattle.vault_types.specs.declared.Answer.{Answer};
 ghost use Rattle.vault_types.specs.declared.Command.TheVariants as command;
@@ -41,18 +41,18 @@ pub fn openings_end_early()
 
 /// A script that was read to its end is run, or its run ends where the shelf is opened.
 pub fn scripts_are_batches()
-    ensures { (words : List (List ℕ)) (limits : Limits) (before now : World) (input : SourceTold) (answers : List Answer) (lines : List Line) (f : Option Fault) (queue lanes workers : ℕ)
+    ensures { (words : List (List ℕ)) (limits : Limits) (before now : World) (input : SourceTold) (answers : List Answer) (lines : List Line) (f : Option Fault) (queue lanes workers : ℕ) (in_order : Bool)
         → command_of words ≡ Some (command.Batch queue lanes workers) → IsScript limits before.input lines → IfSome input.left (λ rest. rest ≡ [])
-        → IsSomeAnd f (EndsAtOpening (with_input before input) now answers) ⊎ RanLines lines limits (with_input before input) now answers f
-        → IsSomeAnd f (EndsEarly words limits before now answers) ⊎ RunsBatch limits before now answers f }
+        → IsSomeAnd f (EndsAtOpening (with_input before input) now answers) ⊎ RanLines in_order lines limits (with_input before input) now answers f
+        → IsSomeAnd f (EndsEarly words limits before now answers) ⊎ RunsBatch in_order limits before now answers f }
 {}
 
 /// Lines that run behind an opening, which changes nothing of the shelf but its count of faults, are a run of them from
 /// before it, where what is known as strays behind the opening are strays of its blobs.
 pub fn openings_change_no_run<K: StateKeeper>()
-    ensures { (limits : Limits) (lines : List Line) (answers : List Answer) (old new : ShelfTold) (k : K) (before now : PlacesTold) → IsSameBut old (K.shelf k)
+    ensures { (in_order : Bool) (limits : Limits) (lines : List Line) (answers : List Answer) (old new : ShelfTold) (k : K) (before now : PlacesTold) → IsSameBut old (K.shelf k)
         → ((S : State) → Begins old S → (n : Name) → K.strays k n → StraysOf old S n) → ((S : State) → Begins old S → K.keeps k S None)
-        → RunsLines (λ S. K.keeps k S None) (λ S. K.strays k) limits lines answers (K.shelf k) new before now → RunsLines (Begins old) (StraysOf old) limits lines answers old new before now }
+        → RunsLines in_order (λ S. K.keeps k S None) (λ S. K.strays k) limits lines answers (K.shelf k) new before now → RunsLines in_order (Begins old) (StraysOf old) limits lines answers old new before now }
 {}
 
 /// A call behind an opening that runs one line is the run of its command, where what is known as strays behind the opening
@@ -74,6 +74,6 @@ pub fn calls_are_runs<K: StateKeeper>()
 
 /// No line of `fill` is refused as its source or its sink could not be opened, or as its source failed.
 pub fn fills_open_and_read_all()
-    ensures { (seed versions : ℕ) (limits : Limits) (before now : World) (answers : List Answer) (f : Option Fault) → RunsFill seed versions limits before now answers f
+    ensures { (in_order : Bool) (seed versions : ℕ) (limits : Limits) (before now : World) (answers : List Answer) (f : Option Fault) → RunsFill in_order seed versions limits before now answers f
         → (filter_map place_number answers ≡ []) × (filter_map read_number answers ≡ []) }
 {}

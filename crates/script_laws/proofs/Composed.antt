@@ -1,48 +1,47 @@
 -- What a chain of lines comes to, as a run of them.
-use Rattle.std.proofs.Common.{◌≡◌, inl, inr, ⊎_elim, ℕ, List, [], ◌∷◌, Option, Some, None, refl, sym, subst, arith}
+use Rattle.std.proofs.Common.{◌≡◌, inl, inr, ℕ, true, List, [], ◌∷◌, ◌++◌, Option, Some, None, refl, sym, subst, arith}
 use Rattle.std.specs.Prelude.{IsSomeAnd, IfSome}
 use Rattle.vault_types.specs.declared.Limits.{Limits}
 use Rattle.vault_types.specs.declared.Name.{Name}
 use Rattle.vault_types.specs.declared.Answer.{Answer}
 use Rattle.vault_types.specs.declared.Line.{Line}
 use Rattle.vault_types.specs.State.{State, IsValid}
-use Rattle.vault_types.specs.Script.{Sources, after, state_after, Reaches}
+use Rattle.vault_types.specs.Script.{Sources, after, state_after}
 use Rattle.vault_types.specs.Shelf.{Blobs, Stands}
 use Rattle.vault_types.specs.Events.{Change, IsNear, IsChange}
 use Rattle.vault_traits.specs.Told.{ShelfTold, Files}
-use Rattle.vault_traits.proofs.Moments.{more, more_now}
+use Rattle.vault_traits.proofs.Moments.{more_now}
 use Rattle.script_laws.specs.Causes.{AreFitting, CausesRise, Counts, counts_over, store_number, place_number, read_number, write_number}
-use Rattle.script_laws.specs.Leaves.{MayBeDone, StandsOrNearly, StandsForOne, StandsOrOther}
+use Rattle.script_laws.specs.Leaves.{MayBeDone, StandsOrNearly}
 use Rattle.vault_types.specs.Bytes.{IsSound}
 use Rattle.script_laws.specs.Complete.{IsWell, IsComplete}
-use Rattle.script_laws.proofs.Staying.{AreWell, well_alone, well_behind}
-use Rattle.script_laws.proofs.Bytes.{Goes, keep_bytes}
+use Rattle.script_laws.proofs.Staying.{AreWell, well_alone, well_behind, wide, wide_well}
+use Rattle.script_laws.proofs.Bytes.{Goes, GoesOn, keep_bytes, kept_on, reached_behind}
+use Rattle.script_laws.specs.Table.{MeanLines}
 use Rattle.script_laws.specs.Outputs.{AreApartLines, OnFiles, KeepsOthers, AreOutputs}
 use Rattle.script_laws.specs.Script.{MeansScript, RunsLines}
 use Rattle.script_laws.specs.Strays.{StraysOf}
 use Rattle.script_laws.specs.View.{IsKept}
-use Rattle.script_laws.specs.Steps.{Moment, StepsLine, ReachesFrom, Chain}
+use Rattle.script_laws.specs.Steps.{Moment, StepsLine, Chain}
 use Rattle.script_laws.proofs.Rising.{rise_more}
+use Rattle.script_laws.proofs.Ordering.{causes_in_order}
 use Rattle.script_laws.proofs.Names.{files_then, others_then}
 use Rattle.script_laws.proofs.Near.{nearly}
 use Rattle.script_laws.proofs.Counting.{few_counted}
-use Rattle.script_laws.proofs.Following.{LeftBy, stand_more, Follows, follows, table, keeps_last, loads, strays, crashes, outputs, well}
+use Rattle.script_laws.proofs.Following.{LeftBy, Follows, follows, table, keeps_last, loads, strays, outputs, well}
+use Rattle.script_laws.proofs.Crashing.{crashes, once}
 
 -- behind lines that began with no change, those that may be left
-left_alone : (sources : Sources) (S : State) (lines : List Line) (answers : List Answer) (T : State) → LeftBy sources S None lines answers T → MayBeDone sources S lines answers T
+pub left_alone : (sources : Sources) (S : State) (lines : List Line) (answers : List Answer) (T : State) → LeftBy sources S None lines answers T → MayBeDone sources S lines answers T
 left_alone sources S lines answers T (inl none) = absurd none.0
 left_alone sources S lines answers T (inr done) = done
 
-reached_alone : (sources : Sources) (S : State) (lines : List Line) (answers : List Answer) (T : State) → ReachesFrom sources S None lines answers T → Reaches sources S lines answers T
-reached_alone sources S lines answers T (inl none) = absurd none
-reached_alone sources S lines answers T (inr done) = done
-
-stands_at_end : (S : State) (May : State → Type 0) (next : Option Change) → IsValid S → IfSome next (λ h. (s : ℕ) × IsChange S s h) → ((T : State) → IsSomeAnd next (λ h. h.state ≡ T) → May T)
+pub stands_at_end : (S : State) (May : State → Type 0) (next : Option Change) → IsValid S → IfSome next (λ h. (s : ℕ) × IsChange S s h) → IfSome next (λ h. IsValid h.state) → ((T : State) → IsSomeAnd next (λ h. h.state ≡ T) → May T)
     → (o : Option Blobs) → IsSomeAnd o (IsNear S next) → IsSomeAnd o (StandsOrNearly S May)
-stands_at_end S May next valid change may None h = h
-stands_at_end S May next valid change may (Some m) (inl stands) = inl stands
-stands_at_end S May None valid change may (Some m) (inr none) = absurd none
-stands_at_end S May (Some h) valid change may (Some m) (inr has) = inr (h.state, may h.state refl, has.other, nearly S change.0 h valid change.1 m has)
+stands_at_end S May next valid change changed may None h = h
+stands_at_end S May next valid change changed may (Some m) (inl stands) = inl stands
+stands_at_end S May None valid change changed may (Some m) (inr none) = absurd none
+stands_at_end S May (Some h) valid change changed may (Some m) (inr has) = inr (h.state, may h.state refl, changed, has.other, nearly S change.0 h valid change.1 m has)
 
 module _ {K : Type 0} (shelf : K → ShelfTold) (keeps : K → State → Option Change → Type 0) (known : K → Name → Type 0) (keeps_is : (k : K) (S : State) (other : Option Change) → keeps k S other → IsKept (shelf k) S other)
     (strays_known : (k : K) (S : State) (other : Option Change) → keeps k S other → (n : Name) → StraysOf (shelf k) S n → known k n) (limits : Limits) where
@@ -80,38 +79,22 @@ module _ {K : Type 0} (shelf : K → ShelfTold) (keeps : K → State → Option 
   others old new (line ∷ lines) (answer ∷ answers) chain = files_then old.places.files chain.0.places.files new.places.files (KeepsOthers (line ∷ [])) (KeepsOthers lines) (KeepsOthers (line ∷ lines))
       (λ x y z told first rest. others_then line lines x y z first rest) chain.1.others (others chain.0 new lines answers chain.2)
 
-  goes : (sources : Sources) (S : State) (other : Option Change) (old new : Moment K) (lines : List Line) (answers : List Answer) → Follows shelf keeps known limits sources S other old lines answers new → IsWell limits sources S lines
-      → Goes limits sources S lines answers
-  goes sources S other old new [] [] chain w = w.sound.valid
-  goes sources S other old new [] (answer ∷ answers) chain w = absurd chain
-  goes sources S other old new (line ∷ lines) [] chain w = absurd chain
-  goes sources S other old new (line ∷ lines) (answer ∷ answers) chain w =
+  goes : (most : Limits) (sources : Sources) (S : State) (other : Option Change) (old new : Moment K) (lines : List Line) (answers : List Answer) → Follows shelf keeps known limits sources S other old lines answers new → IsWell most sources S lines
+      → Goes most sources S lines answers × IsSound (state_after sources S lines answers)
+  goes most sources S other old new [] [] chain w = (w.sound.valid, w.sound)
+  goes most sources S other old new [] (answer ∷ answers) chain w = absurd chain
+  goes most sources S other old new (line ∷ lines) [] chain w = absurd chain
+  goes most sources S other old new (line ∷ lines) (answer ∷ answers) chain w =
       let valid = (keeps_is chain.0.keeper (after sources S line answer) chain.1 chain.2).valid in
-      (w, chain.3.means.done, valid, goes sources (after sources S line answer) chain.1 chain.0 new lines answers chain.6 (well_behind limits sources S lines line answer valid chain.3.means.done w))
+      let rest = goes most sources (after sources S line answer) chain.1 chain.0 new lines answers chain.6 (well_behind most sources S lines line answer valid chain.3.means.done w) in
+      ((w, chain.3.means.done, valid, rest.0), rest.1)
 
-  pub means : (sources : Sources) (S : State) (old new : Moment K) (lines : List Line) (answers : List Answer) → keeps old.keeper S None → Follows shelf keeps known limits sources S None old lines answers new
-      → MeansScript limits sources S lines answers (known old.keeper) (shelf old.keeper) (shelf new.keeper)
-  means sources S old new lines answers keep chain =
-      let last = keeps_last shelf keeps known limits sources S None old new lines answers keep chain in
-      let is = keeps_is new.keeper (state_after sources S lines answers) last.0 last.1 in
-      let passed = strays shelf keeps known limits sources S None old new lines answers chain in
-      record {
-        table = table shelf keeps known limits sources S None old new lines answers chain;
-        shelf = record {
-          blobs = stands_at_end (state_after sources S lines answers) (MayBeDone sources S lines answers) last.0 is.valid is.change (λ T h. left_alone sources S lines answers T (last.2 T h)) (shelf new.keeper).blobs is.blobs;
-          valid = is.valid;
-          loads = loads shelf keeps known limits sources S None old new lines answers chain;
-        };
-        strays = record { later = passed.later; others = passed.others; few = passed.few; each = λ n stray. passed.each n (strays_known new.keeper (state_after sources S lines answers) last.0 last.1 n stray) };
-        crash = λ images.
-            let both = crashes shelf keeps known limits sources S None old new lines answers chain (more_now (λ m. Stands m S) (IsNear S None) (λ m stands. inl stands) (shelf old.keeper).history images) in
-            record {
-              any_moment = more (StandsForOne (ReachesFrom sources S None lines answers)) (StandsForOne (Reaches sources S lines answers)) (stand_more _ _ (reached_alone sources S lines answers)) _ _ both.0;
-              at_the_end = more_now (StandsOrOther (state_after sources S lines answers) (LeftBy sources S None lines answers)) (StandsOrOther (state_after sources S lines answers) (MayBeDone sources S lines answers))
-                  (λ m e. ⊎_elim (λ stands. inl stands) (λ left. inr (left.0, left_alone sources S lines answers left.0 left.1, left.2)) e) _ both.1;
-            };
-        bytes = λ w. keep_bytes limits sources S lines answers (goes sources S None old new lines answers chain w);
-      }
+  on : (sources : Sources) (S : State) (other : Option Change) (old new : Moment K) (lines : List Line) (answers : List Answer) → keeps old.keeper S other → Follows shelf keeps known limits sources S other old lines answers new → GoesOn sources S lines answers
+  on sources S other old new [] [] keep chain = (keeps_is old.keeper S other keep).valid
+  on sources S other old new [] (answer ∷ answers) keep chain = absurd chain
+  on sources S other old new (line ∷ lines) [] keep chain = absurd chain
+  on sources S other old new (line ∷ lines) (answer ∷ answers) keep chain =
+      ((keeps_is old.keeper S other keep).valid, chain.3.means.done, (keeps_is chain.0.keeper (after sources S line answer) chain.1 chain.2).valid, on sources (after sources S line answer) chain.1 chain.0 new lines answers chain.2 chain.6)
 
   all_well : (sources : Sources) (S : State) (other : Option Change) (old new : Moment K) (lines : List Line) (answers : List Answer) → Follows shelf keeps known limits sources S other old lines answers new → IsWell limits sources S lines
       → AreWell limits sources S lines answers × IsSound (state_after sources S lines answers)
@@ -122,6 +105,34 @@ module _ {K : Type 0} (shelf : K → ShelfTold) (keeps : K → State → Option 
       let kept = keeps_is chain.0.keeper (after sources S line answer) chain.1 chain.2 in
       let rest = all_well sources (after sources S line answer) chain.1 chain.0 new lines answers chain.6 (well_behind limits sources S lines line answer kept.valid chain.3.means.done w) in
       ((well_alone limits sources S lines line w, rest.0), rest.1)
+
+  pub means : (sources : Sources) (S : State) (old new : Moment K) (lines : List Line) (answers : List Answer) → keeps old.keeper S None → Follows shelf keeps known limits sources S None old lines answers new
+      → MeansScript limits sources S lines answers (known old.keeper) (shelf old.keeper) (shelf new.keeper)
+  means sources S old new lines answers keep chain =
+      let last = keeps_last shelf keeps known limits sources S None old new lines answers keep chain in
+      let is = keeps_is new.keeper (state_after sources S lines answers) last.0 last.1 in
+      let passed = strays shelf keeps known limits sources S None old new lines answers chain in
+      record {
+        table = table shelf keeps known limits sources S None old new lines answers chain;
+        shelf = record {
+          blobs = stands_at_end (state_after sources S lines answers) (MayBeDone sources S lines answers) last.0 is.valid is.change is.changed (λ T h. left_alone sources S lines answers T (last.2 T h)) (shelf new.keeper).blobs is.blobs;
+          valid = is.valid;
+          loads = loads shelf keeps known limits sources S None old new lines answers chain;
+        };
+        strays = record { later = passed.later; others = passed.others; few = passed.few; each = λ n stray. passed.each n (strays_known new.keeper (state_after sources S lines answers) last.0 last.1 n stray) };
+        crash = λ images. crashes shelf keeps known keeps_is limits sources S None old new lines answers keep chain
+            (more_now (λ m. Stands m S) (IsNear S None) (λ m stands. inl stands) (shelf old.keeper).history images);
+        once_done = once shelf keeps known keeps_is limits sources S None old new lines answers chain;
+        kept = kept_on sources S lines answers (on sources S None old new lines answers keep chain);
+        bytes = λ safe. keep_bytes (wide limits sources lines) sources S lines answers (goes (wide limits sources lines) sources S None old new lines answers chain (wide_well limits sources S lines safe)).0;
+        reached = λ front rest given more T before gave long safe valid is.
+            let both = goes (wide limits sources lines) sources S None old new lines answers chain (wide_well limits sources S lines safe) in
+            let r = reached_behind (wide limits sources lines) limits sources T valid S front rest given more long
+                (subst (λ (ls : List Line). Goes (wide limits sources lines) sources S ls (given ++ more)) before (subst (λ (xs : List Answer). Goes (wide limits sources lines) sources S lines xs) gave both.0))
+                (subst (λ (ls : List Line). MeanLines limits sources S ls (given ++ more)) before (subst (λ (xs : List Answer). MeanLines limits sources S lines xs) gave (table shelf keeps known limits sources S None old new lines answers chain)))
+                (subst (λ (ls : List Line). IsSound (state_after sources S ls (given ++ more))) before (subst (λ (xs : List Answer). IsSound (state_after sources S lines xs)) gave both.1)) is in
+            (r.0.sound, r.1);
+      }
 
   completes : (sources : Sources) (S : State) (old new : Moment K) (lines : List Line) (answers : List Answer) → Chain (StepsLine shelf keeps known limits) old lines answers new → Follows shelf keeps known limits sources S None old lines answers new
       → IsWell limits sources S lines → IsComplete limits sources S lines answers (counts old) (counts new)
@@ -140,10 +151,11 @@ module _ {K : Type 0} (shelf : K → ShelfTold) (keeps : K → State → Option 
   only_outputs sources S lines answers (Some x) (Some z) h = h.0
 
   pub runs_of_chain : (old new : Moment K) (lines : List Line) (answers : List Answer) → AreApartLines lines → Chain (StepsLine shelf keeps known limits) old lines answers new
-      → RunsLines (λ S. keeps old.keeper S None) (λ S. known old.keeper) limits lines answers (shelf old.keeper) (shelf new.keeper) old.places new.places
+      → RunsLines true (λ S. keeps old.keeper S None) (λ S. known old.keeper) limits lines answers (shelf old.keeper) (shelf new.keeper) old.places new.places
   runs_of_chain old new lines answers apart chain = record {
     kinds = kinds old new lines answers chain;
-    causes = causes old new lines answers chain;
+    causes = causes_in_order (counts old) (counts new) lines answers (causes old new lines answers chain);
+    ordered = λ e. causes old new lines answers chain;
     others = others old new lines answers chain;
     means = λ S sources keep fed. means sources S old new lines answers keep (follows shelf keeps known limits sources S None old new [] [] lines answers keep fed apart chain);
     outputs = λ S sources keep fed. only_outputs sources S lines answers old.places.files new.places.files

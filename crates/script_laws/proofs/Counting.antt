@@ -39,7 +39,7 @@ counted_once (Shown t v rows) rest s p r w is = is
 counted_once (Migrated recipes) rest s p r w is = is
 counted_once (Scrubbed containers damaged) rest s p r w is = is
 
-counted_all : (answers : List Answer) → length (filter is_counted answers)
+pub counted_all : (answers : List Answer) → length (filter is_counted answers)
     ≡ length (filter_map store_number answers) + length (filter_map place_number answers) + length (filter_map read_number answers) + length (filter_map write_number answers)
 counted_all [] = refl
 counted_all (a ∷ answers) = counted_once a (filter is_counted answers) (filter_map store_number answers) (filter_map place_number answers) (filter_map read_number answers) (filter_map write_number answers) (counted_all answers)

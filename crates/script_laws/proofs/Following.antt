@@ -13,15 +13,13 @@ use Rattle.vault_types.specs.Script.{Sources, after, after_line, is_refused, cha
 use Rattle.vault_traits.specs.Counts.{counted_up}
 use Rattle.vault_types.specs.Shelf.{Blobs}
 use Rattle.vault_types.specs.Events.{Change, IsNear}
-use Rattle.vault_traits.specs.Crash.{LeavesNowIfTold, LeavesOnlyIfTold}
 use Rattle.vault_traits.specs.Told.{ShelfTold, Files}
-use Rattle.vault_traits.proofs.Moments.{then, more, more_now, stays}
 use Rattle.script_laws.specs.Table.{MeanLines}
-use Rattle.script_laws.specs.Leaves.{has_change, MayBeDone, StandsForOne, StandsOrOther, HasLoaded}
+use Rattle.script_laws.specs.Leaves.{has_change, MayBeDone, StandsForOne, HalfBehind, HasLoaded}
 use Rattle.script_laws.specs.Complete.{AreWellAnswered}
 use Rattle.script_laws.specs.Outputs.{OnFiles, KeepsOthers, IsOutputOf, AreOutputs, AreFedBy, AreApartFrom}
 use Rattle.script_laws.specs.Strays.{IsNumberedBy, MayStayBehind, MayStay, StraysAreKnown}
-use Rattle.script_laws.specs.Steps.{Moment, StepsLine, StepsOn, IsNextOther, ReachesFrom, Chain}
+use Rattle.script_laws.specs.Steps.{Moment, StepsLine, StepsOn, IsNextOther, StandsWith, Chain}
 use Rattle.script_laws.proofs.Staying.{AreWell}
 use Rattle.script_laws.proofs.Rising.{counted_up_twice}
 use Rattle.script_laws.proofs.Names.{files_then, others_then, fed_first, fed_rest, output_then, outputs_then}
@@ -53,7 +51,7 @@ no_change true false rest (inl h) e = cc
 no_change true false rest (inr h) e = cc
 no_change false r rest why e = e
 
-left_step : (sources : Sources) (S : State) (other next : Option Change) (line : Line) (answer : Answer) (lines : List Line) (answers : List Answer) (T : State)
+pub left_step : (sources : Sources) (S : State) (other next : Option Change) (line : Line) (answer : Answer) (lines : List Line) (answers : List Answer) (T : State)
     → IsNextOther sources S other line answer next → LeftBy sources (after sources S line answer) next lines answers T → LeftBy sources S other (line ∷ lines) (answer ∷ answers) T
 left_step sources S other next line answer lines answers T is (inr later) = inr (inr later)
 left_step sources S other next line answer lines answers T (inl none) (inl here) = absurd (of_none next (λ h. h.state ≡ T) none here.0)
@@ -65,30 +63,27 @@ reaches_start sources S [] answers = refl
 reaches_start sources S (line ∷ lines) [] = refl
 reaches_start sources S (line ∷ lines) (answer ∷ answers) = inl refl
 
-reach_step : (sources : Sources) (S : State) (other next : Option Change) (line : Line) (answer : Answer) (lines : List Line) (answers : List Answer) (T : State)
-    → IsNextOther sources S other line answer next → ReachesFrom sources (after sources S line answer) next lines answers T → ReachesFrom sources S other (line ∷ lines) (answer ∷ answers) T
-reach_step sources S other next line answer lines answers T is (inr later) = inr (inr (inr later))
-reach_step sources S other next line answer lines answers T (inl none) (inl here) = absurd (of_none next (λ h. h.state ≡ T) none here)
-reach_step sources S other next line answer lines answers T (inr (inl same)) (inl here) = inl (as_before next other (λ h. h.state ≡ T) same.1 here)
-reach_step sources S other next line answer lines answers T (inr (inr done)) (inl here) = inr (inr (inl (done.0, done.1, is_after next (after_line sources S line) T done.2 here)))
-
--- what the first line reaches, all of them reach
-reach_first : (sources : Sources) (S : State) (other : Option Change) (line : Line) (answer : Answer) (lines : List Line) (answers : List Answer) (T : State)
-    → ReachesFrom sources S other (line ∷ []) (answer ∷ []) T → ReachesFrom sources S other (line ∷ lines) (answer ∷ answers) T
-reach_first sources S other line answer lines answers T (inl before) = inl before
-reach_first sources S other line answer lines answers T (inr (inl start)) = inr (inl start)
-reach_first sources S other line answer lines answers T (inr (inr (inl done))) = inr (inr (inl done))
-reach_first sources S other line answer lines answers T (inr (inr (inr behind))) =
-    inr (inr (inr (subst (λ (U : State). Reaches sources (after sources S line answer) lines answers U) (sym behind) (reaches_start sources (after sources S line answer) lines answers))))
-
 -- what is near a state stands for it, or for that of the change
-pub near_one : (S : State) (other : Option Change) (May : State → Type 0) → May S → ((T : State) → IsSomeAnd other (λ h. h.state ≡ T) → May T) → (m : Blobs) → IsNear S other m → StandsForOne May m
-near_one S other May here there m (inl stands) = (S, here, stands)
-near_one S None May here there m (inr none) = absurd none
-near_one S (Some h) May here there m (inr has) = (h.state, there h.state refl, has.other)
+pub near_with : (S : State) (other : Option Change) (m : Blobs) → IsNear S other m → StandsWith S other m
+near_with S other m (inl stands) = inl stands
+near_with S None m (inr none) = absurd none
+near_with S (Some h) m (inr has) = inr has.other
 
 pub stand_more : (P Q : State → Type 0) → ((T : State) → P T → Q T) → (m : Blobs) → StandsForOne P m → StandsForOne Q m
-stand_more P Q wider m (T, may, stands) = (T, wider T may, stands)
+stand_more P Q wider m (T, may, valid, stands) = (T, wider T may, valid, stands)
+
+-- the changes that may be half done behind a line are among those that its answer lets be
+pub half_step : (sources : Sources) (S : State) (other next : Option Change) (line : Line) (answer : Answer) (Half : State → Type 0) → IsNextOther sources S other line answer next
+    → ((T : State) → IsSomeAnd other (λ h. h.state ≡ T) → Half T) → (T : State) → IsSomeAnd next (λ h. h.state ≡ T) → HalfBehind sources S line answer Half T
+half_step sources S other next line answer Half (inl none) half T here = absurd (of_none next (λ h. h.state ≡ T) none here)
+half_step sources S other next line answer Half (inr (inl same)) half T here = inl (stays (changes line) (is_refused answer) same.0, half T (as_before next other (λ h. h.state ≡ T) same.1 here))
+  where
+    stays : (c r : Bool) → (IsTrue r ⊎ (c ≡ false)) → (c && not r) ≡ false
+    stays true true why = refl
+    stays true false (inl h) = cc
+    stays true false (inr h) = cc
+    stays false r why = refl
+half_step sources S other next line answer Half (inr (inr done)) half T here = inr (done.0, done.1, is_after next (after_line sources S line) T done.2 here)
 
 -- ---- strays
 
@@ -107,7 +102,7 @@ behind_through limits S (Delete s through) answer P P' Q wider n here = by (is_r
     by true stays = wider n stays
     by false none = absurd none
 
-stay_through : (limits : Limits) (sources : Sources) (S : State) (lines : List Line) (answers : List Answer) (P P' Q : Name → Type 0) → ((n : Name) → P n → P' n ⊎ Q n) → (n : Name)
+pub stay_through : (limits : Limits) (sources : Sources) (S : State) (lines : List Line) (answers : List Answer) (P P' Q : Name → Type 0) → ((n : Name) → P n → P' n ⊎ Q n) → (n : Name)
     → MayStay limits sources S lines answers P n → MayStay limits sources S lines answers P' n ⊎ Q n
 stay_through limits sources S [] answers P P' Q wider n here = wider n here
 stay_through limits sources S (line ∷ lines) [] P P' Q wider n here = wider n here
@@ -207,40 +202,6 @@ module _ {K : Type 0} (shelf : K → ShelfTold) (keeps : K → State → Option 
     where
       two : (a b c n m : ℕ) → a ≤ b → b ≤ c → n ≤ 2 * (b - a) → m ≤ 2 * (c - b) → n + m ≤ 2 * (c - a)
       two a b c n m ab bc h k = omega arith
-
-  pub crashes : (sources : Sources) (S : State) (other : Option Change) (old new : Moment K) (lines : List Line) (answers : List Answer) → Follows sources S other old lines answers new
-      → LeavesNowIfTold (shelf old.keeper).history (IsNear S other)
-      → LeavesOnlyIfTold (shelf old.keeper).history (shelf new.keeper).history (StandsForOne (ReachesFrom sources S other lines answers))
-      × LeavesNowIfTold (shelf new.keeper).history (StandsOrOther (state_after sources S lines answers) (LeftBy sources S other lines answers))
-  crashes sources S other old new [] [] chain here = (
-    subst (λ (m : Moment K). LeavesOnlyIfTold (shelf old.keeper).history (shelf m.keeper).history (StandsForOne (ReachesFrom sources S other [] []))) (sym chain)
-        (stays (StandsForOne (ReachesFrom sources S other [] [])) _ _ refl (more_now (IsNear S other) (StandsForOne (ReachesFrom sources S other [] [])) (near_one S other (ReachesFrom sources S other [] []) (inr refl) (λ T is. inl is)) _ here)),
-    subst (λ (m : Moment K). LeavesNowIfTold (shelf m.keeper).history (StandsOrOther S (LeftBy sources S other [] []))) (sym chain)
-        (more_now (IsNear S other) (StandsOrOther S (LeftBy sources S other [] [])) (at_end other) _ here),
-  )
-    where
-      at_end : (o : Option Change) (m : Blobs) → IsNear S o m → StandsOrOther S (LeftBy sources S o [] []) m
-      at_end o m (inl stands) = inl stands
-      at_end None m (inr none) = absurd none
-      at_end (Some h) m (inr has) = inr (h.state, inl (refl, refl), has.other)
-  crashes sources S other old new [] (answer ∷ answers) chain here = absurd chain
-  crashes sources S other old new (line ∷ lines) [] chain here = absurd chain
-  crashes sources S other old new (line ∷ lines) (answer ∷ answers) chain here =
-      let step = chain.3.crash here in
-      let rest = crashes sources S' chain.1 chain.0 new lines answers chain.6 step.behind in
-      let May : State → Type 0 = ReachesFrom sources S other (line ∷ lines) (answer ∷ answers) in (
-        then (StandsForOne May) _ _ _
-            (more (StandsForOne (ReachesFrom sources S other (line ∷ []) (answer ∷ []))) (StandsForOne May) (stand_more _ May (reach_first sources S other line answer lines answers)) _ _ step.any_moment)
-            (more (StandsForOne (ReachesFrom sources S' chain.1 lines answers)) (StandsForOne May) (stand_more _ May goes) _ _ rest.0),
-        more_now (StandsOrOther (state_after sources S' lines answers) (LeftBy sources S' chain.1 lines answers)) (StandsOrOther (state_after sources S' lines answers) (LeftBy sources S other (line ∷ lines) (answer ∷ answers)))
-            (λ m e. ⊎_elim (λ stands. inl stands) (λ left. inr (left.0, left_step sources S other chain.1 line answer lines answers left.0 chain.3.next_other left.1, left.2)) e) _ rest.1,
-      )
-    where
-      S' : State
-      S' = after sources S line answer
-
-      goes : (T : State) → ReachesFrom sources S' chain.1 lines answers T → ReachesFrom sources S other (line ∷ lines) (answer ∷ answers) T
-      goes T = reach_step sources S other chain.1 line answer lines answers T chain.3.next_other
 
   -- where all is well at each line, each is well answered
   pub well : (sources : Sources) (S : State) (other : Option Change) (old new : Moment K) (lines : List Line) (answers : List Answer) → Follows sources S other old lines answers new

@@ -1,9 +1,11 @@
 pub mod Rising
+pub mod Ordering
 pub mod Chained
 pub mod Names
 pub mod Staying
-mod Bytes
+pub mod Bytes
 pub mod Following
+pub mod Crashing
 pub mod Near
 pub mod Counting
 pub mod Composed

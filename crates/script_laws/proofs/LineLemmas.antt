@@ -4,7 +4,7 @@ use Rattle.std.specs.Option.{option_map}
 use Rattle.vault_types.proofs.FillLemmas.{bytes_eq-same}
 use Rattle.vault_types.specs.Bytes.{bytes_of}
 use Rattle.vault_types.specs.Words.{is_one_of}
-use Rattle.std.proofs.Common.{◌≡◌, ◌≢◌, ◌++◌, ◌||◌, ◌⊎◌, inl, inr, ◌≤◌, ℕ, Bool, true, false, IsTrue, List, [], ◌∷◌, Option, Some, None, refl, sym, ◌∙◌, ap, subst, arith}
+use Rattle.std.proofs.Common.{◌≡◌, ◌≢◌, ◌++◌, ◌||◌, ◌&&◌, ◌⊎◌, inl, inr, ◌≤◌, ℕ, Bool, true, false, IsTrue, List, [], ◌∷◌, Option, Some, None, refl, sym, ◌∙◌, ap, subst, arith}
 use Rattle.std.specs.Prelude.{MatchOption, IsSomeAnd, if◌then◌else◌, IfSome, IsSome, unwrap_or}
 use Rattle.std.specs.List.{cons_option}
 use Rattle.vault_types.specs.declared.Limits.{Limits}
@@ -18,7 +18,7 @@ use Rattle.vault_types.specs.declared.Answer.TheVariants.{Stored, Restored, Remo
 use Rattle.vault_types.specs.declared.Line.{Line}
 use Rattle.vault_types.specs.declared.Line.TheVariants.{Backup, Restore, Delete}
 use Rattle.vault_types.specs.State.{State, is_full, is_kept, floor_of, latest_of, next_of}
-use Rattle.vault_types.specs.Script.{Sources, is_refused}
+use Rattle.vault_types.specs.Script.{Sources, is_refused, changes}
 use Rattle.vault_types.specs.Refusals.{due_refusal, is_of_state, refuses_by_state, IsExact}
 use Rattle.vault_traits.specs.Counts.{added, RiseFrom}
 use Rattle.vault_types.specs.Events.{Change, IsNear}
@@ -29,13 +29,13 @@ use Rattle.vault_traits.specs.Files.{AreKept, IsReaderOf, ChangesOnly, IsEmptied
 use Rattle.vault_traits.proofs.Moments.{stays, more_now}
 use Rattle.script_laws.specs.Causes.{CausesRise, fits, place_number, read_number, write_number}
 use Rattle.script_laws.specs.Table.{MeansLine, MayBeAnswer, ShowsDamage}
-use Rattle.script_laws.specs.Leaves.{Gets, StandsForOne}
+use Rattle.script_laws.specs.Leaves.{Gets}
 use Rattle.script_laws.specs.Complete.{IsWellAnswered}
 use Rattle.script_laws.specs.Outputs.{OnFiles, KeepsOthers, AreFedBy, IsOutput, IsOutputOf, IsFrontOf}
 use Rattle.script_laws.specs.Strays.{MayStayBehind}
-use Rattle.script_laws.specs.Steps.{StepsOn, ReachesFrom, read_numbered, write_numbered}
+use Rattle.script_laws.specs.Steps.{StepsOn, StandsWith, read_numbered, write_numbered}
 use Rattle.script_laws.specs.Calls.{HasWritten}
-use Rattle.script_laws.proofs.Following.{near_one}
+use Rattle.script_laws.proofs.Following.{near_with}
 
 -- ---- a refusal that moves nothing
 
@@ -48,13 +48,18 @@ unmoved limits sources S other line f Known shelf means complete gets = record {
   gets = (0, refl, gets);
   strays = record { later = omega arith; others = []; few = λ below. omega arith; each = λ n stray. inl (behind line n stray) };
   crash = λ images. record {
-    any_moment = stays Reached _ _ refl (more_now (IsNear S other) Reached (near_one S other (ReachesFrom sources S other (line ∷ []) (Refused f ∷ [])) (inr (inl refl)) (λ T is. inl is)) _ images);
+    any_moment = stays Either _ _ refl (more_now (IsNear S other) Either (λ m near. inl (near_with S other m near)) _ images);
     behind = images;
   };
+  settles = λ is. absurd (refused (changes line) is);
 }
   where
-    Reached : Blobs → Type 0
-    Reached = StandsForOne (ReachesFrom sources S other (line ∷ []) (Refused f ∷ []))
+    Either : Blobs → Type 0
+    Either m = StandsWith S other m ⊎ StandsWith S other m
+
+    refused : (c : Bool) → IsTrue (c && false) → ⊥
+    refused true is = let clash : false ≡ true = is in cc
+    refused false is = let clash : false ≡ true = is in cc
 
     behind : (l : Line) (n : Name) → Known n → MayStayBehind limits S l (Refused f) Known n
     behind (Backup s name config) n stray = inl stray
@@ -182,6 +187,7 @@ as_backup limits sources S other next s name config answer Known Behind old new 
   gets = st.gets;
   strays = record { later = st.strays.later; others = st.strays.others; few = st.strays.few; each = st.strays.each };
   crash = λ images. let both = st.crash images in record { any_moment = both.any_moment; behind = both.behind };
+  settles = st.settles;
 }
 
 pub as_delete : (limits : Limits) (sources : Sources) (S : State) (other next : Option Change) (s n : ℕ) (answer : Answer) (Known Behind : Name → Type 0) (old new : ShelfTold)
@@ -193,6 +199,7 @@ as_delete limits sources S other next s n answer Known Behind old new st = recor
   gets = st.gets;
   strays = record { later = st.strays.later; others = st.strays.others; few = st.strays.few; each = st.strays.each };
   crash = λ images. let both = st.crash images in record { any_moment = both.any_moment; behind = both.behind };
+  settles = st.settles;
 }
 
 pub as_restore : (limits : Limits) (sources : Sources) (S : State) (other next : Option Change) (s v : ℕ) (name : List ℕ) (cache : ℕ) (answer : Answer) (Known Behind : Name → Type 0) (old new : ShelfTold)
@@ -204,6 +211,7 @@ as_restore limits sources S other next s v name cache answer Known Behind old ne
   gets = (st.gets.0, st.gets.1, gets answer st.gets.0 st.gets.2);
   strays = record { later = st.strays.later; others = st.strays.others; few = st.strays.few; each = st.strays.each };
   crash = λ images. let both = st.crash images in record { any_moment = both.any_moment; behind = both.behind };
+  settles = st.settles;
 }
   where
     damage : (a : Answer) → ShowsDamage S (Restore s v [] cache) a → ShowsDamage S (Restore s v name cache) a
@@ -229,6 +237,7 @@ renumber_read limits sources S other next s name config n m Known Behind old new
   gets = st.gets;
   strays = record { later = st.strays.later; others = st.strays.others; few = st.strays.few; each = st.strays.each };
   crash = λ images. let both = st.crash images in record { any_moment = both.any_moment; behind = both.behind };
+  settles = st.settles;
 }
   where
     another : (k : ℕ) → Refused (fault.ReadFault m) ≡ Refused (fault.TooMany k) → ⊥
@@ -434,6 +443,7 @@ write_steps limits sources S other next s v name cache (fault.WriteFault n) m Kn
   gets = st.gets;
   strays = record { later = st.strays.later; others = st.strays.others; few = st.strays.few; each = st.strays.each };
   crash = λ images. let both = st.crash images in record { any_moment = both.any_moment; behind = both.behind };
+  settles = st.settles;
 }
 write_steps limits sources S other next s v name cache f m Known Behind old new st = st
 

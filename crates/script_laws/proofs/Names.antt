@@ -15,19 +15,19 @@ use Rattle.vault_types.specs.State.{State}
 use Rattle.vault_types.specs.Bytes.{bytes_of}
 use Rattle.script_laws.specs.Outputs.{KeepsOthers, OnFiles, AreFedBy, AreApartFrom, IsOutput, IsOutputOf, AreOutputs}
 
-or_left : (a b : Bool) → (a || b) ≡ false → a ≡ false
+pub or_left : (a b : Bool) → (a || b) ≡ false → a ≡ false
 or_left true b e = e
 or_left false b e = refl
 
-or_right : (a b : Bool) → (a || b) ≡ false → b ≡ false
+pub or_right : (a b : Bool) → (a || b) ≡ false → b ≡ false
 or_right true b e = cc
 or_right false b e = e
 
-and_left : (a b : Bool) → IsTrue (a && b) → IsTrue a
+pub and_left : (a b : Bool) → IsTrue (a && b) → IsTrue a
 and_left true b e = refl
 and_left false b e = cc
 
-and_right : (a b : Bool) → IsTrue (a && b) → IsTrue b
+pub and_right : (a b : Bool) → IsTrue (a && b) → IsTrue b
 and_right true b e = e
 and_right false b e = cc
 
@@ -35,7 +35,7 @@ not_true : (a : Bool) → IsTrue (not a) → a ≡ false
 not_true true e = cc
 not_true false e = refl
 
-any_left : {X : Type 0} (p : X → Bool) (xs ys : List X) → list_any p (xs ++ ys) ≡ false → list_any p xs ≡ false
+pub any_left : {X : Type 0} (p : X → Bool) (xs ys : List X) → list_any p (xs ++ ys) ≡ false → list_any p xs ≡ false
 any_left p [] ys e = refl
 any_left p (x ∷ xs) ys e = both (p x) (list_any p xs) (or_left (p x) _ e) (any_left p xs ys (or_right (p x) _ e))
   where
@@ -43,11 +43,11 @@ any_left p (x ∷ xs) ys e = both (p x) (list_any p xs) (or_left (p x) _ e) (any
     both true b h k = h
     both false b h k = k
 
-any_right : {X : Type 0} (p : X → Bool) (xs ys : List X) → list_any p (xs ++ ys) ≡ false → list_any p ys ≡ false
+pub any_right : {X : Type 0} (p : X → Bool) (xs ys : List X) → list_any p (xs ++ ys) ≡ false → list_any p ys ≡ false
 any_right p [] ys e = e
 any_right p (x ∷ xs) ys e = any_right p xs ys (or_right (p x) _ e)
 
-any_nil : {X : Type 0} (p : X → Bool) (xs : List X) → list_any p xs ≡ false → list_any p (xs ++ []) ≡ false
+pub any_nil : {X : Type 0} (p : X → Bool) (xs : List X) → list_any p xs ≡ false → list_any p (xs ++ []) ≡ false
 any_nil p [] e = refl
 any_nil p (x ∷ xs) e = both (p x) (list_any p (xs ++ [])) (or_left (p x) _ e) (any_nil p xs (or_right (p x) _ e))
   where
@@ -56,7 +56,7 @@ any_nil p (x ∷ xs) e = both (p x) (list_any p (xs ++ [])) (or_left (p x) _ e) 
     both false b h k = k
 
 -- names that are apart from some are not among them
-apart_member : (names others : List (List ℕ)) (n : List ℕ) → IsTrue (are_apart names others) → Contains names n → is_one_of others n ≡ false
+pub apart_member : (names others : List (List ℕ)) (n : List ℕ) → IsTrue (are_apart names others) → Contains names n → is_one_of others n ≡ false
 apart_member [] others n apart here = absurd (none here)
   where
     none : Contains [] n → ⊥
@@ -126,14 +126,14 @@ fed_rest a b sources before outputs line lines apart kept fed name here = goes a
 
 -- ---- outputs
 
-eq_swap : (m n : List ℕ) → bytes_eq m n ≡ false → bytes_eq n m ≡ false
+pub eq_swap : (m n : List ℕ) → bytes_eq m n ≡ false → bytes_eq n m ≡ false
 eq_swap m n other = by (bytes_eq n m) refl
   where
     by : (b : Bool) → bytes_eq n m ≡ b → bytes_eq n m ≡ false
     by true is = let e : true ≡ false = sym (bytes_eq-same m) ∙ ap (bytes_eq m) (sym (same_bytes n m is)) ∙ other in cc
     by false is = is
 
-absent : (names : List (List ℕ)) (name : List ℕ) → ((m : List ℕ) → Contains names m → bytes_eq name m ≡ false) → is_one_of names name ≡ false
+pub absent : (names : List (List ℕ)) (name : List ℕ) → ((m : List ℕ) → Contains names m → bytes_eq name m ≡ false) → is_one_of names name ≡ false
 absent [] name each = refl
 absent (n ∷ ns) name each = both (bytes_eq name n) (is_one_of ns name) (each n (Contains-append_left (n ∷ []) ns n (Contains-push [] n))) (absent ns name (λ m here. each m (Contains-append_right (n ∷ []) ns m here)))
   where
@@ -142,7 +142,7 @@ absent (n ∷ ns) name each = both (bytes_eq name n) (is_one_of ns name) (each n
     both false b h k = k
 
 -- an output is none of the later ones
-output_stays : (before outputs : List (List ℕ)) (name : List ℕ) (lines : List Line) → AreApartFrom before (outputs ++ name ∷ []) lines → is_one_of (flat_map outputs_of lines) name ≡ false
+pub output_stays : (before outputs : List (List ℕ)) (name : List ℕ) (lines : List Line) → AreApartFrom before (outputs ++ name ∷ []) lines → is_one_of (flat_map outputs_of lines) name ≡ false
 output_stays before outputs name lines apart = absent (flat_map outputs_of lines) name (λ m here.
     eq_swap m name (or_left (bytes_eq m name) false (any_right (bytes_eq m) outputs (name ∷ []) (later_output before (outputs ++ name ∷ []) lines m apart here))))
 
@@ -153,7 +153,7 @@ output_then sources S before outputs (Restore s v name cache) lines answer x y z
     subst (λ (o : Option (List ℕ)). IsOutput (bytes_of S s v) answer (x name) o) (sym (kept name (output_stays before outputs name lines apart))) out
 output_then sources S before outputs (Delete s n) lines answer x y z apart out kept = tt
 
-outputs_from : (sources : Sources) (S : State) (lines : List Line) (answers : List Answer) (x y z : Files) → ((name : List ℕ) → Contains (flat_map outputs_of lines) name → y name ≡ x name)
+pub outputs_from : (sources : Sources) (S : State) (lines : List Line) (answers : List Answer) (x y z : Files) → ((name : List ℕ) → Contains (flat_map outputs_of lines) name → y name ≡ x name)
     → AreOutputs sources S lines answers y z → AreOutputs sources S lines answers x z
 outputs_from sources S [] answers x y z same outs = tt
 outputs_from sources S (line ∷ lines) [] x y z same outs = tt

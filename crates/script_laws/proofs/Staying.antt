@@ -1,9 +1,10 @@
 -- What is well stays well from line to line.
-use Rattle.std.proofs.Common.{◌≡◌, ◌⊎◌, inl, inr, ⊎_elim, ℕ, zero, suc, ◌<◌, ◌≤◌, Bool, true, false, IsTrue, Some, List, [], ◌∷◌, ◌++◌, map, length, refl, sym, ◌∙◌, ap, subst, arith}
+use Rattle.std.proofs.Common.{◌≡◌, ◌+◌, ◌⊎◌, inl, inr, ⊎_elim, ℕ, zero, suc, ◌<◌, ◌≤◌, Bool, true, false, IsTrue, Some, List, [], ◌∷◌, ◌++◌, map, length, refl, sym, ◌∙◌, ap, subst, arith}
 use Rattle.std.specs.Prelude.{Contains, flat_map, if◌then◌else◌, nat_lt, slice_index_or, slice_set}
 use Rattle.std.proofs.lemmas.Bool.Decides.{nat_tests}
 use Rattle.std.proofs.lemmas.List.{append-nil}
 use Rattle.std.proofs.lemmas.List.Elements.{Contains-append_left, Contains-append_right, Contains-append_cases}
+use Rattle.std.specs.List.{AllByRecursion}
 use Rattle.vault_types.specs.declared.Answer.{Answer}
 use Rattle.vault_types.specs.declared.JobConfig.{JobConfig}
 use Rattle.vault_types.specs.declared.Limits.{Limits}
@@ -19,7 +20,7 @@ use Rattle.keeper_parts.proofs.Growing as growing
 use Rattle.deletion_laws.proofs.Shrinking as shrinking
 use Rattle.vault_types.specs.Delete.{delete}
 use Rattle.vault_types.specs.Script.{Sources, after, after_line, is_refused, IsAnswer, IsDone}
-use Rattle.script_laws.specs.Complete.{IsWell, chunks_of_line}
+use Rattle.script_laws.specs.Complete.{IsSafe, IsWell, chunks_of_line}
 use Rattle.script_laws.proofs.Sound.{backup_sound, chunks_backed_up, chunks_kept, delete_sound}
 
 -- at each line all is well
@@ -161,3 +162,21 @@ bytes_kept sources S line answer t v j q valid valid_too is_answer was is = at (
         → bytes_of (if b then S else after_line sources S line) t v ≡ bytes_of S t v
     at true e valid_too is = refl
     at false e valid_too is = ⊎_elim (λ (refused : IsTrue (is_refused answer)). absurd (let clash : true ≡ false = sym refused ∙ e in cc)) (λ done. of_line line done valid_too is) is_answer
+
+-- ---- limits that no source passes
+
+most_of : Sources → List Line → ℕ
+most_of sources [] = 0
+most_of sources (line ∷ lines) = length (chunks_of_line sources line) + most_of sources lines
+
+few_of : (sources : Sources) (lines : List Line) (m : ℕ) → most_of sources lines ≤ m → AllByRecursion (λ line. length (chunks_of_line sources line) ≤ m) lines
+unfolding most_of
+few_of sources [] m low = tt
+few_of sources (line ∷ lines) m low = (omega (arith, low), few_of sources lines m (omega (arith, low)))
+
+pub wide : Limits → Sources → List Line → Limits
+wide limits sources lines = record limits { chunks = most_of sources lines }
+
+pub wide_well : (limits : Limits) (sources : Sources) (S : State) (lines : List Line) → IsSafe sources S lines → IsWell (wide limits sources lines) sources S lines
+unfolding wide
+wide_well limits sources S lines safe = record { sound = safe.sound; no_clash = safe.no_clash; few = few_of sources lines (most_of sources lines) (omega arith) }

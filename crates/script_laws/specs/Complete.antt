@@ -28,6 +28,11 @@ pub record IsWell (limits : Limits) (sources : Sources) (S : State) (lines : Lis
   pub no_clash : NoClash (all_chunks S ++ flat_map (chunks_of_line sources) lines)
   pub few : AllByRecursion (λ line. length (chunks_of_line sources line) ≤ limits.chunks) lines
 
+-- the state is sound, and no two chunks of it and of the sources clash
+pub record IsSafe (sources : Sources) (S : State) (lines : List Line) : Type 0 where
+  pub sound : IsSound S
+  pub no_clash : NoClash (all_chunks S ++ flat_map (chunks_of_line sources) lines)
+
 -- a fault of the shelf or of a place, which has a count
 abbrev pub is_counted : Answer → Bool
 is_counted (Refused (fault.StoreFault n)) = true

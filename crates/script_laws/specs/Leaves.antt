@@ -1,5 +1,5 @@
 -- What the lines leave on the shelf: at the end, and where a crash comes.
-use Rattle.std.specs.Prelude.{◌≡◌, ◌≤◌, ◌+◌, ◌⊎◌, ℕ, Bool, false, not, ◌&&◌, ◌||◌, IsTrue, List, [], ◌∷◌, IsSomeAnd}
+use Rattle.std.specs.Prelude.{◌≡◌, ◌≤◌, ◌+◌, ◌⊎◌, ℕ, Bool, false, not, ◌&&◌, ◌||◌, IsTrue, List, [], ◌∷◌, Option, IsSomeAnd}
 use Rattle.vault_types.specs.declared.Fault.TheVariants as fault
 use Rattle.vault_types.specs.declared.Answer.{Answer}
 use Rattle.vault_types.specs.declared.Answer.TheVariants.{Restored, Refused}
@@ -8,16 +8,20 @@ use Rattle.vault_types.specs.declared.Line.TheVariants.{Restore}
 use Rattle.vault_types.specs.State.{State, IsValid}
 use Rattle.vault_types.specs.Shelf.{Blobs, Stands, StandsNearly}
 use Rattle.vault_types.specs.Plans.{requests, IsLeast}
-use Rattle.vault_types.specs.Script.{Sources, after, after_line, is_refused, is_store_fault, changes, row_ids, state_after, Reaches}
+use Rattle.vault_types.specs.Script.{Sources, after, after_line, is_refused, is_store_fault, changes, row_ids, state_after}
 use Rattle.vault_traits.specs.Counts.{counted_up}
-use Rattle.vault_traits.specs.Crash.{LeavesNowIfTold, LeavesOnlyIfTold}
+use Rattle.vault_traits.specs.Crash.{History, LeavesNowIfTold, LeavesOnlyIfTold}
 use Rattle.vault_traits.specs.Told.{ShelfTold}
 
--- whether one of the lines is a backup or a deletion that was done
+-- a backup or a deletion that was done
+abbrev pub is_change : Line → Answer → Bool
+is_change line answer = changes line && not (is_refused answer)
+
+-- whether one of the lines is such a one
 abbrev pub has_change : List Line → List Answer → Bool
 has_change [] answers = false
 has_change (line ∷ lines) [] = false
-has_change (line ∷ lines) (answer ∷ answers) = (changes line && not (is_refused answer)) || has_change lines answers
+has_change (line ∷ lines) (answer ∷ answers) = is_change line answer || has_change lines answers
 
 -- a backup or a deletion that answered a store fault, behind which none was done, may be done on the shelf: T is the
 -- state with it
@@ -28,17 +32,17 @@ MayBeDone sources S (line ∷ lines) (answer ∷ answers) T =
     (IsTrue (is_store_fault answer) × IsTrue (changes line) × (has_change lines answers ≡ false) × (T ≡ after_line sources S line))
     ⊎ MayBeDone sources (after sources S line answer) lines answers T
 
--- the blobs stand for the state, or nearly, and then for one of these others
+-- the blobs stand for the state, or nearly, and then for one of these others, which is valid
 abbrev pub StandsOrNearly : State → (State → Type 0) → Blobs → Type 0
-StandsOrNearly S May m = Stands m S ⊎ ((T : State) × May T × Stands m T × StandsNearly m S)
+StandsOrNearly S May m = Stands m S ⊎ ((T : State) × May T × IsValid T × Stands m T × StandsNearly m S)
 
--- the blobs stand for one of these states
+-- the blobs stand for one of these states, which is valid
 abbrev pub StandsForOne : (State → Type 0) → Blobs → Type 0
-StandsForOne May m = (T : State) × May T × Stands m T
+StandsForOne May m = (T : State) × May T × IsValid T × Stands m T
 
--- the blobs stand for the state, or for one of the others
-abbrev pub StandsOrOther : State → (State → Type 0) → Blobs → Type 0
-StandsOrOther S May m = Stands m S ⊎ StandsForOne May m
+-- the state, or one of the others
+abbrev pub IsOr : State → (State → Type 0) → State → Type 0
+IsOr S Half T = (T ≡ S) ⊎ Half T
 
 -- the shelf's blobs stand for a valid state
 pub record Begins (shelf : ShelfTold) (S : State) : Type 0 where
@@ -72,8 +76,33 @@ pub record LeavesShelf (sources : Sources) (S : State) (lines : List Line) (answ
   pub valid : IsValid (state_after sources S lines answers)
   pub loads : HasLoaded sources S lines answers old.gets new.gets
 
--- a crash at any moment since leaves only what stands for a state that the lines reach, and one at the end only what the
--- blobs may stand for then
-pub record BearsCrashes (sources : Sources) (S : State) (lines : List Line) (answers : List Answer) (old new : ShelfTold) : Type 0 where
-  pub any_moment : LeavesOnlyIfTold old.history new.history (StandsForOne (Reaches sources S lines answers))
-  pub at_the_end : LeavesNowIfTold new.history (StandsOrOther (state_after sources S lines answers) (MayBeDone sources S lines answers))
+-- where a crash comes
+
+-- the states of changes that may be half done behind a line, of those before it: none behind a change that was done; else
+-- those, and that of the line done where it would change the state and answered a store fault
+abbrev pub HalfBehind : Sources → State → Line → Answer → (State → Type 0) → State → Type 0
+HalfBehind sources S line answer Half T =
+    ((is_change line answer ≡ false) × Half T)
+    ⊎ (IsTrue (is_store_fault answer) × IsTrue (changes line) × (T ≡ after_line sources S line))
+
+-- line by line there is a moment behind it, up to which a crash leaves only the state before the line, the one behind it, or
+-- that of a change half done then, and at which only the one behind it, or that of a change still half done; and so on from
+-- there. Behind the last line it leaves only the last state, or that of a change half done
+abbrev pub BearsLines : Sources → State → (State → Type 0) → List Line → List Answer → Option History → Option History → Type 0
+BearsLines sources S Half [] answers old new = LeavesOnlyIfTold old new (StandsForOne (IsOr S Half))
+BearsLines sources S Half (line ∷ lines) [] old new = ⊥
+BearsLines sources S Half (line ∷ lines) (answer ∷ answers) old new =
+    (mid : Option History)
+    × LeavesOnlyIfTold old mid (StandsForOne (λ T. IsOr S Half T ⊎ IsOr (after sources S line answer) (HalfBehind sources S line answer Half) T))
+    × LeavesNowIfTold mid (StandsForOne (IsOr (after sources S line answer) (HalfBehind sources S line answer Half)))
+    × BearsLines sources (after sources S line answer) (HalfBehind sources S line answer Half) lines answers mid new
+
+-- whatever a crash could leave before: behind each backup or deletion that was done there is a moment at which it leaves only
+-- its state, and from there on it leaves what the lines that follow leave
+abbrev pub BearsOnceDone : Sources → State → List Line → List Answer → Option History → Type 0
+BearsOnceDone sources S [] answers new = Unit {0}
+BearsOnceDone sources S (line ∷ lines) [] new = Unit {0}
+BearsOnceDone sources S (line ∷ lines) (answer ∷ answers) new =
+    (IsTrue (is_change line answer)
+        → (mid : Option History) × LeavesNowIfTold mid (StandsForOne (λ T. T ≡ after sources S line answer)) × BearsLines sources (after sources S line answer) (λ T. ⊥) lines answers mid new)
+    × BearsOnceDone sources (after sources S line answer) lines answers new

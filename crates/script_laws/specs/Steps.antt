@@ -8,14 +8,15 @@ use Rattle.vault_types.specs.declared.Answer.{Answer}
 use Rattle.vault_types.specs.declared.Answer.TheVariants.{Refused}
 use Rattle.vault_types.specs.declared.Line.{Line}
 use Rattle.vault_types.specs.State.{State}
+use Rattle.vault_types.specs.Shelf.{Blobs, Stands}
 use Rattle.vault_types.specs.Events.{Change, IsNear}
-use Rattle.vault_types.specs.Script.{Sources, after, after_line, is_refused, is_store_fault, changes, Reaches}
+use Rattle.vault_types.specs.Script.{Sources, after, after_line, is_refused, is_store_fault, changes}
 use Rattle.vault_traits.specs.Counts.{counted_up}
 use Rattle.vault_traits.specs.Crash.{History, LeavesNowIfTold, LeavesOnlyIfTold}
 use Rattle.vault_traits.specs.Told.{ShelfTold, PlacesTold}
 use Rattle.script_laws.specs.Causes.{CausesRise, fits, counts_over}
 use Rattle.script_laws.specs.Table.{MeansLine}
-use Rattle.script_laws.specs.Leaves.{Gets, StandsForOne}
+use Rattle.script_laws.specs.Leaves.{Gets, is_change}
 use Rattle.script_laws.specs.Complete.{IsWell, IsWellAnswered}
 use Rattle.script_laws.specs.Outputs.{OnFiles, KeepsOthers, IsOutputOf, AreFedBy}
 use Rattle.script_laws.specs.Strays.{MayStayBehind}
@@ -42,9 +43,9 @@ IsNextOther sources S other line answer next =
     ⊎ (((IsTrue (is_refused answer) ⊎ (changes line ≡ false)) × (next ≡ other)))
     ⊎ (IsTrue (is_store_fault answer) × IsTrue (changes line) × IsSomeAnd next (λ h. h.state ≡ after_line sources S line))
 
--- the states that a crash may find where there was this change before the lines
-abbrev pub ReachesFrom : Sources → State → Option Change → List Line → List Answer → State → Type 0
-ReachesFrom sources S other lines answers T = IsSomeAnd other (λ h. h.state ≡ T) ⊎ Reaches sources S lines answers T
+-- the blobs stand for the state, or for that with the change
+abbrev pub StandsWith : State → Option Change → Blobs → Type 0
+StandsWith S other m = Stands m S ⊎ IsSomeAnd other (λ h. Stands m h.state)
 
 -- what is known as a stray behind the line was known before and may stay, or is one of two for each unit that the count of
 -- faults rose by
@@ -54,9 +55,10 @@ pub record StraysStep (limits : Limits) (S : State) (line : Line) (answer : Answ
   pub few : new.faults < 2 ^ 64 - 1 → length others ≤ 2 * (new.faults - old.faults)
   pub each : (n : Name) → Behind n → MayStayBehind limits S line answer Known n ⊎ Contains others n
 
--- a crash at any moment of the line leaves a state that it reaches, and one behind it the state then or with the change
+-- a crash at any moment of the line leaves the state before it or the one behind it, or that with the change that was half
+-- done before or is then; one behind it the state then or with the change
 pub record BearsStep (sources : Sources) (S : State) (other : Option Change) (line : Line) (answer : Answer) (next : Option Change) (old new : Option History) : Type 0 where
-  pub any_moment : LeavesOnlyIfTold old new (StandsForOne (ReachesFrom sources S other (line ∷ []) (answer ∷ [])))
+  pub any_moment : LeavesOnlyIfTold old new (λ m. StandsWith S other m ⊎ StandsWith (after sources S line answer) next m)
   pub behind : LeavesNowIfTold new (IsNear (after sources S line answer) next)
 
 -- what a line does in the state S, where a failed write may have made the change `other`, and these names are known as
@@ -68,6 +70,7 @@ pub record StepsOn (limits : Limits) (sources : Sources) (S : State) (other : Op
   pub gets : (n : ℕ) × (new.gets ≡ counted_up old.gets n) × Gets S line answer n
   pub strays : StraysStep limits S line answer Known Behind old new
   pub crash : LeavesNowIfTold old.history (IsNear S other) → BearsStep sources S other line answer next old.history new.history
+  pub settles : IsTrue (is_change line answer) → LeavesNowIfTold new.history (λ m. Stands m (after sources S line answer))
 
 -- a keeper and the places, between two lines
 pub record Moment (K : Type 0) : Type 0 where

@@ -4,7 +4,7 @@
 //! another are such a run. All of it are laws over the definitions: a call that runs lines cites their proofs.
 #![tactic(auto)]
 
-ghost use Rattle.std.specs.Prelude.{◌≡◌, ◌≤◌, ◌<◌, ◌+◌, ◌-◌, ◌^◌, ℕ, true, false, List, [], ◌∷◌, Option, None, Some, Result, count_by};
+ghost use Rattle.std.specs.Prelude.{◌≡◌, ◌≤◌, ◌<◌, ◌+◌, ◌-◌, ◌^◌, ℕ, true, false, IsTrue, List, [], ◌∷◌, Option, None, Some, Result, count_by};
 ghost use Rattle.vault_types.specs.declared.Answer.{Answer};
 ghost use Rattle.vault_types.specs.declared.Answer.TheVariants.{Refused};
 ghost use Rattle.vault_types.specs.declared.Fault.{Fault};
@@ -17,15 +17,17 @@ ghost use Rattle.vault_types.specs.declared.Line.TheVariants.{Backup, Restore, D
 ghost use Rattle.vault_types.specs.Events.{Change, HasChange, IsChange};
 ghost use Rattle.vault_types.specs.Lists.{IsAscending};
 ghost use Rattle.vault_types.specs.Bytes.{bytes_of};
-ghost use Rattle.vault_types.specs.Script.{Sources, after, IsAnswer};
+ghost use Rattle.vault_types.specs.Script.{Reaches, Sources, after, state_after, IsAnswer};
 ghost use Rattle.vault_types.specs.Shelf.{Blobs, StandsNearly};
 ghost use Rattle.vault_types.specs.State.{KeptVersion, State, IsValid, version_of, floor_of, is_full, is_kept, latest_of, next_of};
 ghost use Rattle.vault_traits.specs.Counts.{RiseFrom, Rose};
+ghost use Rattle.vault_traits.specs.Crash.{History, LeavesNowIfTold, LeavesOnlyIfTold};
 ghost use Rattle.vault_traits.specs.Files.{AreKept, ChangesOnly, MayBeEmptied};
 ghost use Rattle.vault_traits.specs.Told.{PlacesTold, ShelfTold, SinkTold, SourceTold};
 ghost use Rattle.script_laws.specs.Calls.{AroundSink, AroundSource, BacksUpLine, DeletesLine, RestoresLine, backup_answer, restore_answer};
 ghost use Rattle.script_laws.specs.Causes.{CausesRise, Counts};
 ghost use Rattle.script_laws.specs.Complete.{AreBelowLast, IsWell, is_counted};
+ghost use Rattle.script_laws.specs.Leaves.{BearsLines, BearsOnceDone, IsOr, MayBeDone, StandsForOne, has_change};
 ghost use Rattle.script_laws.specs.Outputs.{AreApartLines};
 ghost use Rattle.script_laws.specs.Script.{MeansScript, RunsLines};
 ghost use Rattle.script_laws.specs.Strays.{StraysOf};
@@ -52,7 +54,7 @@ pub trait StateKeeper {
 /// in the state that those before it leave.
 pub fn lines_are_a_run<K: StateKeeper>()
     ensures { (limits : Limits) (old new : Moment K) (lines : List Line) (answers : List Answer) → AreApartLines lines → Chain (StepsLine K.shelf K.keeps K.strays limits) old lines answers new
-        → RunsLines (λ S. K.keeps old.keeper S None) (λ S. K.strays old.keeper) limits lines answers (K.shelf old.keeper) (K.shelf new.keeper) old.places new.places }
+        → RunsLines true (λ S. K.keeps old.keeper S None) (λ S. K.strays old.keeper) limits lines answers (K.shelf old.keeper) (K.shelf new.keeper) old.places new.places }
 {}
 
 /// What a call does that runs one line is what a script of that line means.
@@ -127,4 +129,16 @@ pub fn lines_stay_well()
 pub fn lines_keep_bytes()
     ensures { (sources : Sources) (S : State) (line : Line) (answer : Answer) (t v : ℕ) (j q : KeptVersion) → IsValid S → IsValid (after sources S line answer) → IsAnswer sources S line answer
         → version_of S t v ≡ Some j → version_of (after sources S line answer) t v ≡ Some q → bytes_of (after sources S line answer) t v ≡ bytes_of S t v }
+{}
+
+/// What lines leave of a crash, line by line, comes to this: at any moment it leaves a state that the lines reach, and at
+/// the end the last one or that of a change that was half done; the latter also where nothing is known of the beginning, if
+/// a backup or a deletion was done.
+pub fn crashes_go_by_lines()
+    ensures any_moment { (sources : Sources) (S : State) (lines : List Line) (answers : List Answer) (old new : Option History) → BearsLines sources S (λ T. ⊥) lines answers old new
+        → LeavesOnlyIfTold old new (StandsForOne (Reaches sources S lines answers)) }
+    ensures at_the_end { (sources : Sources) (S : State) (lines : List Line) (answers : List Answer) (old new : Option History) → BearsLines sources S (λ T. ⊥) lines answers old new
+        → LeavesNowIfTold new (StandsForOne (IsOr (state_after sources S lines answers) (MayBeDone sources S lines answers))) }
+    ensures settled { (sources : Sources) (S : State) (lines : List Line) (answers : List Answer) (new : Option History) → BearsOnceDone sources S lines answers new → IsTrue (has_change lines answers)
+        → LeavesNowIfTold new (StandsForOne (IsOr (state_after sources S lines answers) (MayBeDone sources S lines answers))) }
 {}

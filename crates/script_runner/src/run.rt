@@ -1,5 +1,5 @@
 // A run of lines.
-ghost use Rattle.std.specs.Prelude.{◌≡◌, ◌≤◌, ℕ, List, Option, None, IsSome, IfOk, IfErr};
+ghost use Rattle.std.specs.Prelude.{◌≡◌, ◌≤◌, ℕ, true, List, Option, None, IsSome, IfOk, IfErr};
 ghost use Rattle.std.specs.List.{AllByRecursion};
 ghost use Rattle.vault_types.specs.Events.{Change};
 ghost use Rattle.vault_types.specs.Script.{Sources};
@@ -177,7 +177,7 @@ pub fn script_plain<K: Store, P: Places>(
     requires apart { AreApartLines lines.now }
     requires ranges { AllByRecursion IsLineInRange lines.now }
     requires limits { AreLimits limits.now }
-    ensures runs { IfOk result (λ done. RunsLines (λ S. K.keeps store S None) (λ S. K.strays store) limits.now lines.now done.answers.items (K.shelf store) (K.shelf done.store) (P.told places.old) (P.told places.new)) }
+    ensures runs { IfOk result (λ done. RunsLines true (λ S. K.keeps store S None) (λ S. K.strays store) limits.now lines.now done.answers.items (K.shelf store) (K.shelf done.store) (P.told places.old) (P.told places.new)) }
     ensures room { IfOk result (λ done. (S : State) (sources : Sources) → K.keeps store S None → AreFedBy (P.told places.old).files sources lines.now → IsSome (P.told places.old).files → NeedRoom P.room sources S lines.now done.answers.items) }
     ensures memory { IfErr result (λ e. (e.1 ≡ store) × (P.told places.new ≡ P.told places.old)) }
 {

@@ -14,7 +14,7 @@ use Rattle.vault_types.specs.declared.Pending.TheVariants as pending
 use Rattle.vault_types.specs.declared.Recipe.{Recipe}
 use Rattle.vault_types.specs.Names.{fp}
 use Rattle.vault_types.specs.Tables.{Container}
-use Rattle.vault_types.specs.State.{State, is_full, latest_of, next_of, next_in}
+use Rattle.vault_types.specs.State.{State, IsValid, is_full, latest_of, next_of, next_in}
 use Rattle.vault_types.specs.Backup.{backup, after_filling, version_from}
 use Rattle.vault_types.specs.Shelf.{Blobs, recipe_name, Stands}
 use Rattle.vault_types.specs.Events.{Core, Change, Job, IsNear, IsCore, IsChange, CanCommit, after_commit, after_refused, after_abort, after_begin, commit_change, committed}
@@ -23,6 +23,7 @@ use Rattle.vault_traits.specs.Crash.{LeavesNowIfTold, LeavesOnlyIfTold}
 use Rattle.vault_traits.proofs.Moments.{then, ends, more, more_now, stays}
 use Rattle.blob_parts.specs.Causes.{IsCause, IsUndamaged}
 use Rattle.commit_laws.specs.Laws.{AreStraysLeft}
+use Rattle.commit_laws.proofs.Committing.{commit_core}
 use Rattle.backup_pass.specs.Passing.{HasPassed, index_in}
 use Rattle.backup_pass.specs.declared.pass.Pass.{Pass}
 use Rattle.keeper_catalog.specs.declared.JobInfo.{JobInfo}
@@ -80,6 +81,8 @@ full_backs_up s config limits v from latest next idle full latest_is next_is = r
     any_moment = λ images. stays (λ c. IsNear K.state K.other c ⊎ IsNear K.state K.other c) v.told.history v.told.history refl
         (more_now (IsNear K.state K.other) (λ c. IsNear K.state K.other c ⊎ IsNear K.state K.other c) (λ c near. inl near) v.told.history images);
     behind = λ images. images;
+    settled = λ images e. images e;
+    changed = λ valid. valid;
   };
   idle = idle;
   pins = refl;
@@ -126,6 +129,8 @@ module _ (s : ℕ) (config : JobConfig) (limits : Limits) (v w : View) (from : S
       strays = λ n among. inl (subst (λ (l : List Name). Contains l n) ((keeps K kept).memo.strays ∙ sym kept.memo.strays) among);
       any_moment = λ images. more (IsNear K.state K.other) (λ c. IsNear K.state K.other c ⊎ IsNear K.state K.other c) (λ c near. inl near) v.told.history w.told.history (moment K kept images);
       behind = λ images. ends (IsNear K.state K.other) v.told.history w.told.history (moment K kept images);
+      settled = λ images e. ends (IsNear K.state K.other) v.told.history w.told.history (moment K kept (images (kept.pending ∙ sym (keeps K kept).pending ∙ e)));
+      changed = λ valid. valid;
     };
     idle = idle;
     pins = pins;
@@ -183,12 +188,12 @@ module _ (b : Began) (now : View) (core : HasCore b.keeper) (roomy : (K : Core) 
       (moment : (K : Core) → Keeps b.keeper K → LeavesNowIfTold b.keeper.told.history (IsNear K.state K.other) → LeavesOnlyIfTold b.keeper.told.history now.told.history (IsNear K.state K.other))
       (mended : (b.keeper.pending ≡ pending.Not → ⊥) → (K : Core) → Keeps b.keeper K → LeavesNowIfTold now.told.history (IsNear K.state None))
       (gets : now.told.gets ≡ b.keeper.told.gets) (later : b.keeper.told.faults ≤ now.told.faults) (pins : now.pins ≡ b.keeper.pins) (tells : IsSome b.keeper.told.blobs → IsSome now.told.blobs) where
-    images : (K : Core) → Keeps b.keeper K → LeavesNowIfTold b.keeper.told.history (IsNear K.state K.other) → LeavesNowIfTold now.told.history (IsNear K.state None)
+    images : (K : Core) → Keeps b.keeper K → (b.keeper.pending ≡ pending.Not → LeavesNowIfTold b.keeper.told.history (IsNear K.state K.other)) → LeavesNowIfTold now.told.history (IsNear K.state None)
     images K kept before = step b.keeper.pending refl
       where
         step : (p : Pending) → b.keeper.pending ≡ p → LeavesNowIfTold now.told.history (IsNear K.state None)
         step pending.Not e = subst (λ (o : Option Change). LeavesNowIfTold now.told.history (IsNear K.state o)) (other_none K kept.core (sym kept.pending ∙ e))
-            (ends (IsNear K.state K.other) b.keeper.told.history now.told.history (moment K kept before))
+            (ends (IsNear K.state K.other) b.keeper.told.history now.told.history (moment K kept (before e)))
         step pending.Opened e = mended (λ n. let clash : pending.Opened ≡ pending.Not = sym e ∙ n in cc) K kept
         step (pending.FailedFor m) e = mended (λ n. let clash : pending.FailedFor m ≡ pending.Not = sym e ∙ n in cc) K kept
 
@@ -256,7 +261,9 @@ module _ (b : Began) (roomy : (K : Core) → Keeps b.keeper K → is_full K.stat
       strays = λ n among. of_job before h.containers h.underway K kept f n (subst (λ (l : List Name). Contains l n) strays among);
       any_moment = λ images. more (IsNear K.state K.other) (λ c. IsNear K.state K.other c ⊎ IsNear K.state None c) (λ c near. inl near) b.keeper.told.history now.told.history
           (subst (λ (t : ShelfTold). LeavesOnlyIfTold b.keeper.told.history t.history (IsNear K.state K.other)) (sym told) (h.underway.crash K kept images));
-      behind = λ images. subst (λ (t : ShelfTold). LeavesNowIfTold t.history (IsNear K.state None)) (sym told) (h.underway.images K kept images);
+      behind = λ images. subst (λ (t : ShelfTold). LeavesNowIfTold t.history (IsNear K.state None)) (sym told) (h.underway.images K kept (λ e. images));
+      settled = λ images e. subst (λ (t : ShelfTold). LeavesNowIfTold t.history (IsNear K.state None)) (sym told) (h.underway.images K kept images);
+      changed = λ valid. tt;
     };
     idle = (aborts (job_core b.set h.containers before h.underway.core.0) (h.underway.keeps h.underway.core.0 h.underway.core.1)).job;
     pins = pins ∙ h.underway.pins;
@@ -299,7 +306,7 @@ module _ (b : Began) (roomy : (K : Core) → Keeps b.keeper K → is_full K.stat
           then (λ c. IsNear K.state K.other c ⊎ Stands c (backup K.state b.set h.read b.config)) b.keeper.told.history before.told.history now.told.history
           (more (IsNear K.state K.other) (λ c. IsNear K.state K.other c ⊎ Stands c (backup K.state b.set h.read b.config)) (λ c near. inl near) b.keeper.told.history before.told.history (h.underway.crash K kept images))
           (more (IsNear K.state (Some (change_of K))) (λ c. IsNear K.state K.other c ⊎ Stands c (backup K.state b.set h.read b.config)) (wider K kept) before.told.history now.told.history
-          (moment (core_of K) job (h.underway.keeps K kept) (h.ready.can K kept) (h.underway.images K kept images)))
+          (moment (core_of K) job (h.underway.keeps K kept) (h.ready.can K kept) (h.underway.images K kept (λ e. images))))
 
       pub commit_backs_up : ((K : Core) (j : Job) → Keeps before K → CanCommit K j p.0 → Keeps now (after_commit (version_by K j p.0) j now.memo.strays K))
           → ((K : Core) (j : Job) → Keeps before K → CanCommit K j p.0 → LeavesNowIfTold now.told.history (IsNear (committed (version_by K j p.0) j K.state) None))
@@ -328,7 +335,7 @@ module _ (b : Began) (roomy : (K : Core) → Keeps b.keeper K → is_full K.stat
         store_later = omega (arith, h.underway.later);
         source_later = h.source_later;
         crash = crash;
-        crash_after = λ K kept images.
+        crash_after = λ K kept.
             more_now (IsNear (committed (version_by (core_of K) job p.0) job K.state) None) (λ c. Stands c (backup K.state b.set h.read b.config)) (only K kept) now.told.history
             (acked (core_of K) job (h.underway.keeps K kept) (h.ready.can K kept));
       }
@@ -365,12 +372,19 @@ module _ (b : Began) (roomy : (K : Core) → Keeps b.keeper K → is_full K.stat
               then either b.keeper.told.history before.told.history now.told.history
               (more (IsNear K.state K.other) either (λ c near. inl near) b.keeper.told.history before.told.history (h.underway.crash K kept images))
               (more (λ c. IsNear K.state None c ⊎ IsNear K.state left.other c) either (λ c near. ⊎_elim (λ here. inl (near_any K.state K.other c here)) (λ there. inr there) near) before.told.history now.told.history
-              (left.any_moment (h.underway.images K kept images)));
-          behind = λ images. left.behind (h.underway.images K kept images);
+              (left.any_moment (h.underway.images K kept (λ e. images))));
+          behind = λ images. left.behind (h.underway.images K kept (λ e. images));
+          settled = λ images e. left.behind (h.underway.images K kept images);
+          changed = λ valid. grown left.other left.half;
         }
           where
             left : IsHalf before now (change_of K) None f (core_of K)
             left = half (core_of K) job (h.underway.keeps K kept) (h.ready.can K kept)
+
+            grown : (o : Option Change) → (o ≡ None) ⊎ ((o ≡ Some (change_of K)) × IsShelfFault f) → IfSome o (λ x. IsValid x.state)
+            grown o (inl none) = subst (λ (q : Option Change). IfSome q (λ x. IsValid x.state)) (sym none) tt
+            grown o (inr some) = subst (λ (q : Option Change). IfSome q (λ x. IsValid x.state)) (sym some.0)
+                (commit_core (core_of K) job p.0 (version_by (core_of K) job p.0) (h.underway.keeps K kept).core (h.ready.can K kept) refl []).state
 
             either : Blobs → Type 0
             either c = IsNear K.state K.other c ⊎ IsNear K.state left.other c

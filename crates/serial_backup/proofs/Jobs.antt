@@ -90,7 +90,7 @@ module _ (b : Began) (old now : View) (containers : List Container) (c : Contain
     gets = gets ∙ h.gets;
     crash = λ K kept images.
         then (IsNear K.state K.other) b.keeper.told.history old.told.history now.told.history (h.crash K kept images)
-        (more (IsNear K.state None) (IsNear K.state K.other) (near_any K.state K.other) old.told.history now.told.history (moment (job_core b.set containers old K) (h.keeps K kept) (h.images K kept images)));
+        (more (IsNear K.state None) (IsNear K.state K.other) (near_any K.state K.other) old.told.history now.told.history (moment (job_core b.set containers old K) (h.keeps K kept) (h.images K kept (λ e. images))));
     images = λ K kept images. ends (IsNear K.state None) old.told.history now.told.history (moment (job_core b.set containers old K) (h.keeps K kept) (h.images K kept images));
   }
 

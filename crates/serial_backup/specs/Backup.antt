@@ -4,11 +4,12 @@ use Rattle.vault_types.specs.declared.JobConfig.{JobConfig}
 use Rattle.vault_types.specs.declared.Limits.{Limits}
 use Rattle.vault_types.specs.declared.Name.{Name}
 use Rattle.vault_types.specs.declared.Pending.{Pending}
+use Rattle.vault_types.specs.declared.Pending.TheVariants as pending
 use Rattle.vault_types.specs.declared.Fault.{Fault}
 use Rattle.vault_types.specs.declared.Fault.TheVariants as fault
 use Rattle.vault_types.specs.declared.Answer.{Answer}
 use Rattle.vault_types.specs.Cuts.{cuts, settled}
-use Rattle.vault_types.specs.State.{State, latest_of, next_of, is_full}
+use Rattle.vault_types.specs.State.{State, IsValid, latest_of, next_of, is_full}
 use Rattle.vault_types.specs.Backup.{backup, stored}
 use Rattle.vault_types.specs.Shelf.{table_name, payload_name, recipe_name, Stands}
 use Rattle.vault_types.specs.Events.{Core, Change, IsNear, after_refused}
@@ -74,6 +75,8 @@ pub record IsRefused (s : ℕ) (config : JobConfig) (limits : Limits) (read : Li
   pub strays : (n : Name) → Contains w.memo.strays n → MayBeStray s limits v K f n
   pub any_moment : LeavesNowIfTold v.told.history (IsNear K.state K.other) → LeavesOnlyIfTold v.told.history w.told.history (λ c. IsNear K.state K.other c ⊎ IsNear K.state other c)
   pub behind : LeavesNowIfTold v.told.history (IsNear K.state K.other) → LeavesNowIfTold w.told.history (IsNear K.state other)
+  pub settled : (v.pending ≡ pending.Not → LeavesNowIfTold v.told.history (IsNear K.state K.other)) → w.pending ≡ pending.Not → LeavesNowIfTold w.told.history (IsNear K.state other)
+  pub changed : IfSome K.other (λ h. IsValid h.state) → IfSome other (λ h. IsValid h.state)
 
 -- a backup of what a source gives into a set of a store
 pub record BacksUp (s : ℕ) (config : JobConfig) (limits : Limits) (v w : View) (from to : SourceTold) (result : Result Answer Fault) : Type 0 where
@@ -98,8 +101,7 @@ pub record BacksUp (s : ℕ) (config : JobConfig) (limits : Limits) (v w : View)
   pub store_later : v.told.faults ≤ w.told.faults
   pub source_later : from.faults ≤ to.faults
   -- where a crash before could leave only this store, one at any moment leaves it or the one after the backup; at Ok only
-  -- that
+  -- that, whatever it could leave before
   pub crash : (K : Core) → Keeps v K → LeavesNowIfTold v.told.history (IsNear K.state K.other)
       → LeavesOnlyIfTold v.told.history w.told.history (λ c. IsNear K.state K.other c ⊎ Stands c (backup K.state s read config))
-  pub crash_after : OnOk result ((K : Core) → Keeps v K → LeavesNowIfTold v.told.history (IsNear K.state K.other)
-      → LeavesNowIfTold w.told.history (λ c. Stands c (backup K.state s read config)))
+  pub crash_after : OnOk result ((K : Core) → Keeps v K → LeavesNowIfTold w.told.history (λ c. Stands c (backup K.state s read config)))

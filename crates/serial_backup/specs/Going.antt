@@ -84,7 +84,7 @@ pub record IsUnderway (b : Began) (now : View) (containers : List Container) : T
   pub later : b.keeper.told.faults ≤ now.told.faults
   pub gets : now.told.gets ≡ b.keeper.told.gets
   pub crash : (K : Core) → Keeps b.keeper K → LeavesNowIfTold b.keeper.told.history (IsNear K.state K.other) → LeavesOnlyIfTold b.keeper.told.history now.told.history (IsNear K.state K.other)
-  pub images : (K : Core) → Keeps b.keeper K → LeavesNowIfTold b.keeper.told.history (IsNear K.state K.other) → LeavesNowIfTold now.told.history (IsNear K.state None)
+  pub images : (K : Core) → Keeps b.keeper K → (b.keeper.pending ≡ pending.Not → LeavesNowIfTold b.keeper.told.history (IsNear K.state K.other)) → LeavesNowIfTold now.told.history (IsNear K.state None)
 
 -- there was no memory, or the shelf failed
 abbrev pub IsPutFault : ℕ → ℕ → Fault → Type 0

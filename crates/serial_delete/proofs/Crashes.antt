@@ -9,42 +9,26 @@ use Rattle.vault_types.specs.State.{State}
 use Rattle.vault_types.specs.Events.{Change, IsNear}
 use Rattle.vault_types.specs.Script.{Sources, after, after_line, is_store_fault, changes}
 use Rattle.vault_traits.specs.Crash.{History, LeavesNowIfTold, LeavesOnlyIfTold}
-use Rattle.vault_traits.proofs.Moments.{ends, more}
-use Rattle.script_laws.specs.Leaves.{StandsForOne}
-use Rattle.script_laws.specs.Steps.{BearsStep, IsNextOther, ReachesFrom}
-use Rattle.script_laws.proofs.Following.{near_one}
-
--- what is half done is nothing, or this change
-pub half_state : (half : Option Change) (h : Change) (X : Type 0) → (half ≡ None) ⊎ ((half ≡ Some h) × X) → (T : State) → IsSomeAnd half (λ k. k.state ≡ T) → T ≡ h.state
-half_state half h X (inl none) T is = absurd (subst (λ (o : Option Change). IsSomeAnd o (λ k. k.state ≡ T)) none is)
-half_state half h X (inr some) T is = sym (subst (λ (o : Option Change). IsSomeAnd o (λ k. k.state ≡ T)) some.0 is)
+use Rattle.vault_traits.proofs.Moments.{ends, more, more_now}
+use Rattle.vault_types.specs.Shelf.{Stands}
+use Rattle.script_laws.specs.Steps.{BearsStep, IsNextOther, StandsWith}
+use Rattle.script_laws.proofs.Following.{near_with}
 
 module _ (sources : Sources) (S : State) (other : Option Change) (line : Line) where
   -- a refusal that writes nothing new
   pub still_bears : (f : Fault) (old new : Option History) → LeavesOnlyIfTold old new (IsNear S other) → BearsStep sources S other line (Refused f) other old new
   still_bears f old new leaves = record {
-    any_moment = more (IsNear S other) (StandsForOne May) (near_one S other May (inr (inl refl)) (λ T is. inl is)) old new leaves;
+    any_moment = more (IsNear S other) (λ c. StandsWith S other c ⊎ StandsWith S other c) (λ c near. inl (near_with S other c near)) old new leaves;
     behind = ends (IsNear S other) old new leaves;
   }
-    where
-      May : State → Type 0
-      May = ReachesFrom sources S other (line ∷ []) (Refused f ∷ [])
 
   -- a refusal behind which the line may be half done
-  pub half_bears : (f : Fault) (next : Option Change) (h : Change) (X : Type 0) (old new : Option History) → (next ≡ None) ⊎ ((next ≡ Some h) × X)
-      → IsTrue (is_store_fault (Refused f)) → IsTrue (changes line) → h.state ≡ after_line sources S line
-      → LeavesOnlyIfTold old new (λ c. IsNear S other c ⊎ IsNear S next c) → LeavesNowIfTold new (IsNear S next) → BearsStep sources S other line (Refused f) next old new
-  half_bears f next h X old new half failed change is leaves behind = record {
-    any_moment = more (λ c. IsNear S other c ⊎ IsNear S next c) (StandsForOne May)
-        (λ c near. ⊎_elim (near_one S other May (inr (inl refl)) (λ T here. inl here) c) (near_one S next May (inr (inl refl)) done c) near) old new leaves;
+  pub half_bears : (f : Fault) (next : Option Change) (old new : Option History) → LeavesOnlyIfTold old new (λ c. IsNear S other c ⊎ IsNear S next c) → LeavesNowIfTold new (IsNear S next) → BearsStep sources S other line (Refused f) next old new
+  half_bears f next old new leaves behind = record {
+    any_moment = more (λ c. IsNear S other c ⊎ IsNear S next c) (λ c. StandsWith S other c ⊎ StandsWith S next c)
+        (λ c near. ⊎_elim (λ h. inl (near_with S other c h)) (λ h. inr (near_with S next c h)) near) old new leaves;
     behind = behind;
   }
-    where
-      May : State → Type 0
-      May = ReachesFrom sources S other (line ∷ []) (Refused f ∷ [])
-
-      done : (T : State) → IsSomeAnd next (λ k. k.state ≡ T) → May T
-      done T here = inr (inr (inl (failed, change, subst (λ (x : State). T ≡ x) is (half_state next h X half T here))))
 
   pub half_next : (f : Fault) (next : Option Change) (h : Change) (X : Type 0) → (next ≡ None) ⊎ ((next ≡ Some h) × X) → IsTrue (is_store_fault (Refused f)) → IsTrue (changes line) → h.state ≡ after_line sources S line
       → IsNextOther sources S other line (Refused f) next
@@ -56,11 +40,12 @@ module _ (sources : Sources) (S : State) (other : Option Change) (line : Line) w
       → LeavesOnlyIfTold old new (λ c. IsNear S other c ⊎ (IsNear S (Some h) c ⊎ IsNear (after sources S line answer) None c)) → LeavesNowIfTold new (IsNear (after sources S line answer) None)
       → BearsStep sources S other line answer None old new
   done_bears answer h old new is leaves behind = record {
-    any_moment = more (λ c. IsNear S other c ⊎ (IsNear S (Some h) c ⊎ IsNear (after sources S line answer) None c)) (StandsForOne May)
-        (λ c near. ⊎_elim (near_one S other May (inr (inl refl)) (λ T here. inl here) c)
-        (λ e. ⊎_elim (near_one S (Some h) May (inr (inl refl)) (λ T here. inr (inr (inr (sym here ∙ is)))) c) (near_one (after sources S line answer) None May (inr (inr (inr refl))) (λ T none. absurd none) c) e) near) old new leaves;
+    any_moment = more (λ c. IsNear S other c ⊎ (IsNear S (Some h) c ⊎ IsNear (after sources S line answer) None c)) (λ c. StandsWith S other c ⊎ StandsWith (after sources S line answer) None c)
+        (λ c near. ⊎_elim (λ k. inl (near_with S other c k))
+        (λ e. ⊎_elim (λ k. ⊎_elim (λ here. inl (inl here)) (λ there. inr (inl (subst (Stands c) is there))) (near_with S (Some h) c k)) (λ k. inr (near_with (after sources S line answer) None c k)) e) near) old new leaves;
     behind = behind;
   }
-    where
-      May : State → Type 0
-      May = ReachesFrom sources S other (line ∷ []) (answer ∷ [])
+
+-- what is near a state with no change half done stands for it
+pub near_alone : (S : State) (h : Option History) → LeavesNowIfTold h (IsNear S None) → LeavesNowIfTold h (λ c. Stands c S)
+near_alone S h = more_now (IsNear S None) (λ c. Stands c S) (λ c near. ⊎_elim (λ stands. stands) (λ none. absurd none) near) h

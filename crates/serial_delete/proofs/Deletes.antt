@@ -1,7 +1,8 @@
 -- A deletion's line, from the clauses of the keeper's deletion.
 use Rattle.std.proofs.Common.{◌≡◌, ◌⊎◌, inl, inr, ⊎_elim, ◌≤◌, ◌<◌, ◌+◌, ◌-◌, ◌*◌, ◌^◌, ◌&&◌, ℕ, Bool, true, false, IsTrue, List, [], ◌∷◌, length, Option, Some, None, refl, sym, ◌∙◌, ap, subst, arith}
-use Rattle.std.specs.Prelude.{IsSome, IfOk, IfErr, OnOk, Result, Ok, Err, Contains, MatchOption, if◌then◌else◌, nat_lt, nat_eq}
+use Rattle.std.specs.Prelude.{IsSome, IfSome, IfOk, IfErr, OnOk, OnErr, Result, Ok, Err, Contains, MatchOption, if◌then◌else◌, nat_lt, nat_eq}
 use Rattle.std.proofs.lemmas.Bool.Decides.{nat_tests}
+use Rattle.vault_types.specs.declared.Pending.TheVariants as pending
 use Rattle.vault_types.specs.declared.Limits.{Limits}
 use Rattle.vault_types.specs.declared.Name.{Name}
 use Rattle.vault_types.specs.declared.Fault.{Fault}
@@ -9,7 +10,7 @@ use Rattle.vault_types.specs.declared.Fault.TheVariants as fault
 use Rattle.vault_types.specs.declared.Answer.{Answer}
 use Rattle.vault_types.specs.declared.Answer.TheVariants.{Removed, Refused}
 use Rattle.vault_types.specs.declared.Line.TheVariants.{Delete}
-use Rattle.vault_types.specs.State.{State, latest_of}
+use Rattle.vault_types.specs.State.{State, IsValid, latest_of}
 use Rattle.vault_types.specs.Delete.{delete, removed}
 use Rattle.vault_types.specs.Events.{Core, Change, IsNear, after_delete, after_refused, delete_change}
 use Rattle.vault_types.specs.Script.{after, is_refused}
@@ -25,9 +26,13 @@ use Rattle.script_laws.specs.Causes.{CausesRise, fits, counts_of_shelf}
 use Rattle.script_laws.specs.Complete.{IsWellAnswered}
 use Rattle.script_laws.specs.Steps.{StepsOn}
 use Rattle.script_laws.specs.Table.{MeansLine}
+use Rattle.vault_traits.proofs.Moments.{ends}
+use Rattle.deletion_laws.proofs.Keeping.{delete_valid}
+use Rattle.script_laws.proofs.Staying.{below_set}
 use Rattle.script_laws.proofs.LineLemmas.{unmoved}
 use Rattle.serial_delete.specs.Keeping.{IsStateOf, IsKnownStray}
-use Rattle.serial_delete.proofs.Crashes.{still_bears, half_bears, half_next, done_bears}
+use Rattle.serial_delete.proofs.Keeping.{changed_of, images_of}
+use Rattle.serial_delete.proofs.Crashes.{still_bears, half_bears, half_next, done_bears, near_alone}
 
 -- ---- numbers
 
@@ -72,7 +77,8 @@ pub record Clauses (u v : View) (s n : ℕ) (result : Result Answer Fault) : Typ
   pub memo : IfErr result (λ f. v.memo ≡ u.memo)
   pub tells : IsSome u.told.blobs → IsSome v.told.blobs
   pub any_moment : (K : Core) → Keeps u K → LeavesNowIfTold u.told.history (IsNear K.state K.other) → LeavesOnlyIfTold u.told.history v.told.history (λ c. IsNear K.state K.other c ⊎ IsDeleting K.state s n c)
-  pub acknowledged : OnOk result ((K : Core) → Keeps u K → LeavesNowIfTold u.told.history (IsNear K.state K.other) → LeavesNowIfTold v.told.history (IsNear (delete K.state s n) None))
+  pub acknowledged : OnOk result ((K : Core) → Keeps u K → (u.pending ≡ pending.Not → LeavesNowIfTold u.told.history (IsNear K.state K.other)) → LeavesNowIfTold v.told.history (IsNear (delete K.state s n) None))
+  pub due : OnErr result (v.pending ≡ pending.Not → u.pending ≡ pending.Not)
   pub few : OnOk result (v.told.faults < 2 ^ 64 - 1 → length v.memo.strays + u.told.faults ≤ v.told.faults)
   pub gets : v.told.gets ≡ u.told.gets
 
@@ -135,25 +141,26 @@ module _ (u v : View) (s n : ℕ) (limits : Limits) where
   goes_from : (S : State) (other : Option Change) (a : Answer) (is : IsStateOf u S other) → Goes v is.core.state is.core.other a → Goes v S other a
   goes_from S other a is goes = subst (λ (T : State). Goes v T other a) is.state (subst (λ (o : Option Change). Goes v is.core.state o a) is.change goes)
 
-  module _ (K : Core) (keeps : Keeps u K) (no_job : K.job ≡ None) (no_pins : K.pins ≡ []) (told : IsSome u.told.blobs) where
+  module _ (K : Core) (keeps : Keeps u K) (no_job : K.job ≡ None) (no_pins : K.pins ≡ []) (told : IsSome u.told.blobs) (changed : IfSome K.other (λ h. IsValid h.state)) (images : u.pending ≡ pending.Not → LeavesNowIfTold u.told.history (IsNear K.state K.other)) where
     done_goes : (a : Answer) → Clauses u v s n (Ok a) → Goes v K.state K.other a
     done_goes a c = subst (λ (b : Answer). Goes v K.state K.other b) (sym (c.ok K keeps).1) (
       None,
-      record { core = after_delete s n v.memo.strays K; keeps = (c.ok K keeps).2; state = refl; change = refl; job = no_job; pins = no_pins; told = c.tells told },
+      record { core = after_delete s n v.memo.strays K; keeps = (c.ok K keeps).2; state = refl; change = refl; job = no_job; pins = no_pins; told = c.tells told; changed = tt; images = λ e. c.acknowledged K keeps images },
       record {
         means = done_means limits K.state s n (c.ok K keeps).0;
         complete = λ all. inl ((c.ok K keeps).0, refl);
         next_other = inl refl;
         gets = (0, c.gets, refl);
         strays = record { later = c.later; others = v.memo.strays; few = λ below. omega (arith, c.few below, c.later); each = λ q known. inr known };
-        crash = λ images. done_bears (λ _. []) K.state K.other (Delete s n) (removed K.state s n) (delete_change s n K.state) u.told.history v.told.history refl (c.any_moment K keeps images) (c.acknowledged K keeps images);
+        crash = λ now. done_bears (λ _. []) K.state K.other (Delete s n) (removed K.state s n) (delete_change s n K.state) u.told.history v.told.history refl (c.any_moment K keeps now) (c.acknowledged K keeps images);
+        settles = λ done. near_alone (delete K.state s n) v.told.history (c.acknowledged K keeps images);
       },
     )
 
     last_goes : (f : Fault) → latest_of K.state s ≤ n → Clauses u v s n (Err f) → Goes v K.state K.other (Refused f)
     last_goes f high c = subst (λ (w : View). Goes w K.state K.other (Refused f)) (sym (c.still K keeps high)) (subst (λ (g : Fault). Goes u K.state K.other (Refused g)) (sym (ap (λ (r : Result Answer Fault). fault_or f r) (c.last K keeps high))) (
       K.other,
-      record { core = K; keeps = keeps; state = refl; change = refl; job = no_job; pins = no_pins; told = told },
+      record { core = K; keeps = keeps; state = refl; change = refl; job = no_job; pins = no_pins; told = told; changed = changed; images = images },
       unmoved limits (λ _. []) K.state K.other (Delete s n) (fault.LastVersion s n (latest_of K.state s)) (IsKnownStray u) u.told (last_means limits K.state s n high) (last_complete limits K.state s n high) refl,
     ))
 
@@ -163,10 +170,14 @@ module _ (u v : View) (s n : ℕ) (limits : Limits) where
         stays : (q : Name) → Contains v.memo.strays q → Contains u.memo.strays q
         stays q known = subst (λ (w : Memo). Contains w.strays q) c.memo known
 
+        valid_half : (o : Option Change) → (o ≡ None) ⊎ ((o ≡ Some (delete_change s n K.state)) × IsShelfFault (fault.StoreFault m)) → IfSome o (λ h. IsValid h.state)
+        valid_half o (inl none) = subst (λ (p : Option Change). IfSome p (λ h. IsValid h.state)) (sym none) tt
+        valid_half o (inr some) = subst (λ (p : Option Change). IfSome p (λ h. IsValid h.state)) (sym some.0) (delete_valid K.state s n keeps.core.state (below_set K.state s n low) low)
+
         as_before : IsStill u v K → Goes v K.state K.other (Refused (fault.StoreFault m))
         as_before same = (
           K.other,
-          record { core = K; keeps = same.keeps; state = refl; change = refl; job = no_job; pins = no_pins; told = c.tells told },
+          record { core = K; keeps = same.keeps; state = refl; change = refl; job = no_job; pins = no_pins; told = c.tells told; changed = changed; images = λ e. ends (IsNear K.state K.other) _ _ (same.any_moment (images (c.due e))) },
           record {
             means = failed_means limits K.state s n m low;
             complete = λ all. inr (inr (inr refl));
@@ -174,21 +185,22 @@ module _ (u v : View) (s n : ℕ) (limits : Limits) where
             gets = (0, c.gets, refl);
             strays = record { later = c.later; others = []; few = λ below. omega arith; each = λ q known. inl (stays q known) };
             crash = λ images. still_bears (λ _. []) K.state K.other (Delete s n) (fault.StoreFault m) u.told.history v.told.history (same.any_moment images);
+            settles = λ done. cc;
           },
         )
 
         half_done : IsHalf u v (delete_change s n K.state) None (fault.StoreFault m) K → Goes v K.state K.other (Refused (fault.StoreFault m))
         half_done half = (
           half.other,
-          record { core = after_refused half.other None v.memo.strays v.pending K; keeps = half.keeps; state = refl; change = refl; job = refl; pins = no_pins; told = c.tells told },
+          record { core = after_refused half.other None v.memo.strays v.pending K; keeps = half.keeps; state = refl; change = refl; job = refl; pins = no_pins; told = c.tells told; changed = valid_half half.other half.half; images = λ e. half.behind (images (c.due e)) },
           record {
             means = failed_means limits K.state s n m low;
             complete = λ all. inr (inr (inr refl));
             next_other = half_next (λ _. []) K.state K.other (Delete s n) (fault.StoreFault m) half.other (delete_change s n K.state) (IsShelfFault (fault.StoreFault m)) half.half refl refl refl;
             gets = (0, c.gets, refl);
             strays = record { later = c.later; others = []; few = λ below. omega arith; each = λ q known. inl (stays q known) };
-            crash = λ images. half_bears (λ _. []) K.state K.other (Delete s n) (fault.StoreFault m) half.other (delete_change s n K.state) (IsShelfFault (fault.StoreFault m)) u.told.history v.told.history half.half refl refl refl
-                (half.any_moment images) (half.behind images);
+            crash = λ now. half_bears (λ _. []) K.state K.other (Delete s n) (fault.StoreFault m) half.other u.told.history v.told.history (half.any_moment now) (half.behind now);
+            settles = λ done. cc;
           },
         )
 
@@ -239,7 +251,7 @@ deletes u v s n (Ok a) c =
       done = ap (λ (b : Answer). is_refused b) is;
       kind = λ limits. kind_done limits s n _ _ a is;
       causes = causes_done u v s n _ _ a is c.later;
-      steps = λ S other limits here. goes_from u v s n limits S other a here (done_goes u v s n limits here.core here.keeps here.job here.pins here.told a c);
+      steps = λ S other limits here. goes_from u v s n limits S other a here (done_goes u v s n limits here.core here.keeps here.job here.pins here.told (changed_of u S other here) (images_of u S other here) a c);
     }
 deletes u v s n (Err f) c =
     let K : Core = c.core.0 in
@@ -248,5 +260,5 @@ deletes u v s n (Err f) c =
       done = tt;
       kind = λ limits. kind_err limits u.told.faults v.told.faults (latest_of K.state s) s n f last (c.cause K c.core.1);
       causes = causes_err u v (latest_of K.state s) s n f last c.later (c.cause K c.core.1);
-      steps = λ S other limits here. goes_from u v s n limits S other (Refused f) here (err_goes u v s n limits here.core here.keeps here.job here.pins here.told f c);
+      steps = λ S other limits here. goes_from u v s n limits S other (Refused f) here (err_goes u v s n limits here.core here.keeps here.job here.pins here.told (changed_of u S other here) (images_of u S other here) f c);
     }

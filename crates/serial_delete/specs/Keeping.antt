@@ -1,12 +1,14 @@
 -- What a keeper keeps between two lines.
-use Rattle.std.specs.Prelude.{◌≡◌, [], Option, None, IsSome, Contains}
+use Rattle.std.specs.Prelude.{◌≡◌, [], Option, None, IsSome, IfSome, Contains}
 use Rattle.vault_types.specs.declared.Name.{Name}
-use Rattle.vault_types.specs.State.{State}
-use Rattle.vault_types.specs.Events.{Core, Change}
+use Rattle.vault_types.specs.declared.Pending.TheVariants as pending
+use Rattle.vault_traits.specs.Crash.{LeavesNowIfTold}
+use Rattle.vault_types.specs.State.{State, IsValid}
+use Rattle.vault_types.specs.Events.{Core, Change, IsNear}
 use Rattle.keeper_catalog.specs.View.{View, Keeps}
 
 -- over a shelf that tells its blobs, with no job and no pin, the keeper keeps the state, and a failed write may have made
--- the change
+-- the change, whose state is valid; where no mending is due, a crash leaves only what is near the state
 pub record IsStateOf (v : View) (S : State) (other : Option Change) : Type 0 where
   pub core : Core
   pub keeps : Keeps v core
@@ -15,6 +17,8 @@ pub record IsStateOf (v : View) (S : State) (other : Option Change) : Type 0 whe
   pub job : core.job ≡ None
   pub pins : core.pins ≡ []
   pub told : IsSome v.told.blobs
+  pub changed : IfSome other (λ h. IsValid h.state)
+  pub images : v.pending ≡ pending.Not → LeavesNowIfTold v.told.history (IsNear S other)
 
 -- the keeper knows the name as a stray
 abbrev pub IsKnownStray : View → Name → Type 0

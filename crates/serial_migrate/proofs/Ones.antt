@@ -1,6 +1,6 @@
 -- One version: its restore, the put of its recipe, and what both come to.
 use Rattle.std.proofs.Common.{◌≡◌, ◌⊎◌, inl, inr, ⊎_elim, ℕ, ◌+◌, ◌≤◌, ◌<◌, true, false, IsTrue, length, map, List, [], ◌∷◌, ◌++◌, Option, Some, None, refl, sym, ap, subst, ◌∙◌, arith}
-use Rattle.std.specs.Prelude.{◌≢◌, IsSome, IfOk, IfErr, OnOk, OnErr, Result, Ok, Err, Contains, is_some}
+use Rattle.std.specs.Prelude.{◌≢◌, IsSome, IfSome, IfOk, IfErr, OnOk, OnErr, Result, Ok, Err, Contains, is_some}
 use Rattle.std.specs.FinMap as fin
 use Rattle.std.specs.Option.{option_map, option_map_or}
 use Rattle.vault_types.specs.declared.Answer.{Answer}
@@ -14,7 +14,7 @@ use Rattle.vault_types.specs.declared.Name.{Name}
 use Rattle.vault_types.specs.declared.Why.{Why}
 use Rattle.vault_types.specs.declared.Why.TheVariants as why
 use Rattle.vault_types.specs.Names.{fp}
-use Rattle.vault_types.specs.State.{State, KeptVersion, latest_of, is_kept, version_of, recipe_of}
+use Rattle.vault_types.specs.State.{State, IsValid, KeptVersion, latest_of, is_kept, version_of, recipe_of}
 use Rattle.vault_types.specs.Blobs.{recipe_bytes_1, recipe_bytes_2}
 use Rattle.vault_types.specs.Bytes.{bytes_of, IsSound}
 use Rattle.vault_types.specs.Shelf.{Blobs, blob_at, recipe_name}
@@ -24,7 +24,7 @@ use Rattle.vault_types.specs.Script.{row_ids}
 use Rattle.vault_traits.specs.Counts.{counted_up, Rose}
 use Rattle.vault_traits.specs.Crash.{History, LeavesNowIfTold, LeavesOnlyIfTold}
 use Rattle.vault_traits.specs.Told.{SinkTold}
-use Rattle.vault_traits.proofs.Moments.{then, ends, stays}
+use Rattle.vault_traits.proofs.Moments.{then, ends, more_now, stays}
 use Rattle.blob_parts.specs.Causes.{Has, IsCause}
 use Rattle.recipe_store.specs.Damages.{IsRecipeDamage}
 use Rattle.keeper_catalog.specs.Catalog.{Memo}
@@ -33,10 +33,12 @@ use Rattle.commit_laws.proofs.Listing.{some_same, none_some}
 use Rattle.deletion_laws.proofs.Members.{clash}
 use Rattle.keeper_core.specs.Calls.{IsWholeOf, IsPinDamage}
 use Rattle.keeper_core.specs.Replacing.{IsRefused}
-use Rattle.keeper_core.proofs.Replacings.{version_there}
+use Rattle.keeper_core.proofs.Replacings.{version_there, near_wider}
 use Rattle.script_laws.specs.Complete.{is_counted}
 use Rattle.run_laws.specs.Migrating.{IsFirst, IsSecond, HaveFirst, ShowsDamage}
+use Rattle.vault_types.specs.declared.Pending.TheVariants as pending
 use Rattle.serial_delete.specs.Keeping.{IsStateOf}
+use Rattle.serial_delete.proofs.Keeping.{changed_of, images_of}
 use Rattle.serial_restore.specs.Restoring.{IsRestoreFault, HasStayed, IsRestored, IsCut, WhereTold}
 use Rattle.serial_restore.proofs.Damages.{undamaged, shown}
 use Rattle.serial_migrate.specs.Going.{IsLaterOf, IsMigrateFault, LeavesOne, LoadsLeast, Summed, PutAgain, Stopped, Went, Halted, without_write}
@@ -109,7 +111,7 @@ module _ (u w : View) (before now : SinkTold) (s n : ℕ) (result : Result Answe
 
     leaves : LeavesOne u w S other other s n
     leaves = record {
-      keeps = record { core = with_pins here.core.pins stayed_here.strays here.core; keeps = stayed_here.keeps; state = here.state; change = here.change; job = here.job; pins = here.pins; told = tells here.told };
+      keeps = record { core = with_pins here.core.pins stayed_here.strays here.core; keeps = stayed_here.keeps; state = here.state; change = here.change; job = here.job; pins = here.pins; told = tells here.told; changed = here.changed; images = λ e. ends (IsNear S other) _ _ (of_core u S other (λ T o. LeavesNowIfTold u.told.history (IsNear T o) → LeavesOnlyIfTold u.told.history w.told.history (IsNear T o)) here (r.any_moment here.core here.keeps) (here.images (here.keeps.pending ∙ sym stayed_here.keeps.pending ∙ e))) };
       next_other = inr refl;
       others = λ t m low apart. stayed_here.recipes t m;
       own = λ k at. inl (stayed_here.recipes s n);
@@ -237,6 +239,7 @@ pub record IsReplace (w x : View) (s n : ℕ) : Type 0 where
       → (blob_at x.told.blobs (recipe_name s n) ≡ blob_at w.told.blobs (recipe_name s n)) ⊎ (blob_at x.told.blobs (recipe_name s n) ≡ Some (recipe_bytes_2 k.sum (recipe_of s n k)))
   pub tells : IsSome w.told.blobs → IsSome x.told.blobs
   pub any_moment : (K : Core) → Keeps w K → LeavesNowIfTold w.told.history (IsNear K.state K.other) → LeavesOnlyIfTold w.told.history x.told.history (IsNear K.state K.other)
+  pub settled : (K : Core) → Keeps w K → (w.pending ≡ pending.Not → LeavesNowIfTold w.told.history (IsNear K.state K.other)) → x.pending ≡ pending.Not → LeavesNowIfTold x.told.history (IsNear K.state None)
   pub same : (x.memo ≡ w.memo) × (x.index ≡ w.index) × (x.pins ≡ w.pins) × (x.job ≡ w.job)
   pub gets : x.told.gets ≡ w.told.gets
 
@@ -272,7 +275,7 @@ module _ (u w x : View) (s n : ℕ) (p : IsReplace w x s n) (S : State) (other :
   put_done ok spelled acknowledged =
       let told = p.tells mid.told in
       record {
-        leaves = leaves_with None (record { core = after_mend K.strays K; keeps = ok K mid.keeps; state = mid.state; change = refl; job = mid.job; pins = mid.pins; told = told }) (inl refl);
+        leaves = leaves_with None (record { core = after_mend K.strays K; keeps = ok K mid.keeps; state = mid.state; change = refl; job = mid.job; pins = mid.pins; told = told; changed = tt; images = λ e. subst (λ (T : State). LeavesNowIfTold x.told.history (IsNear T None)) mid.state (acknowledged K mid.keeps) }) (inl refl);
         second = λ k at. told_at x.told.blobs (recipe_name s n) (Some (recipe_bytes_2 k.sum (recipe_of s n k))) told
             (spelled K k mid.keeps (subst (λ (T : State). version_of T s n ≡ Some k) (sym mid.state) at));
         loads = loads_with;
@@ -285,7 +288,7 @@ module _ (u w x : View) (s n : ℕ) (p : IsReplace w x s n) (S : State) (other :
       record {
         next = refused.0;
         leaves = leaves_with refused.0
-            (record { core = after_refused refused.0 K.job K.strays x.pending K; keeps = refused.1; state = mid.state; change = refl; job = mid.job; pins = mid.pins; told = p.tells mid.told })
+            (record { core = after_refused refused.0 K.job K.strays x.pending K; keeps = refused.1; state = mid.state; change = refl; job = mid.job; pins = mid.pins; told = p.tells mid.told; changed = of_half refused.0 refused.2; images = λ e. more_now (IsNear S None) (IsNear S refused.0) (near_wider S refused.0) x.told.history (subst (λ (T : State). LeavesNowIfTold x.told.history (IsNear T None)) mid.state (p.settled K mid.keeps (images_of w S other mid) e)) })
             (⊎_elim (λ none. inl none) (λ same. inr (same ∙ mid.change)) refused.2);
         loads = summed.loads.loads;
         few = λ least is. let same = least_same (requests (row_ids S s n)) 16 least summed.loads.loads is summed.loads.least in omega (arith, same);
@@ -293,6 +296,10 @@ module _ (u w x : View) (s n : ℕ) (p : IsReplace w x s n) (S : State) (other :
         damage = shows.0;
         sound = shows.1;
       }
+    where
+      of_half : (o : Option Change) → (o ≡ None) ⊎ (o ≡ K.other) → IfSome o (λ h. IsValid h.state)
+      of_half o (inl none) = subst (λ (q : Option Change). IfSome q (λ h. IsValid h.state)) (sym none) tt
+      of_half o (inr same) = subst (λ (q : Option Change). IfSome q (λ h. IsValid h.state)) (sym same) (changed_of w S other mid)
 
 -- a call behind another one
 pub later_of : (u v w : View) → IsLaterOf u v → IsLaterOf v w → IsLaterOf u w
@@ -339,7 +346,7 @@ pub record IsRead (u v : View) : Type 0 where
 
 module _ (u v : View) (s n : ℕ) (read : IsRead u v) (S : State) (other : Option Change) (here : IsStateOf u S other) where
   pub read_state : IsStateOf v S other
-  read_state = record { core = here.core; keeps = read.keeps here.core here.keeps; state = here.state; change = here.change; job = here.job; pins = here.pins; told = subst (λ (b : Option Blobs). IsSome b) (sym read.shelf.0) here.told }
+  read_state = record { core = here.core; keeps = read.keeps here.core here.keeps; state = here.state; change = here.change; job = here.job; pins = here.pins; told = subst (λ (b : Option Blobs). IsSome b) (sym read.shelf.0) here.told; changed = here.changed; images = λ e. subst (λ (h : Option History). LeavesNowIfTold h (IsNear S other)) (sym read.shelf.1) (here.images (sym read.same.4 ∙ e)) }
 
   blob_read : (q : Name) → blob_at v.told.blobs q ≡ blob_at u.told.blobs q
   blob_read q = ap (λ (b : Option Blobs). blob_at b q) read.shelf.0

@@ -1,6 +1,6 @@
 -- A restore's line, from what the restore comes to.
 use Rattle.std.proofs.Common.{◌≡◌, ◌⊎◌, inl, inr, ⊎_elim, ◌≤◌, ◌<◌, ◌&&◌, ◌||◌, ℕ, Bool, true, false, IsTrue, List, [], ◌∷◌, length, map, Option, Some, None, refl, sym, ◌∙◌, ap, subst, arith}
-use Rattle.std.specs.Prelude.{IsSome, IfOk, IfErr, Result, Ok, Err, Contains, MatchOption, if◌then◌else◌, ◌==◌}
+use Rattle.std.specs.Prelude.{IsSome, IfSome, IfOk, IfErr, Result, Ok, Err, Contains, MatchOption, if◌then◌else◌, ◌==◌}
 use Rattle.std.specs.Option.{option_map_or}
 use Rattle.std.proofs.lemmas.List.{append-nil}
 use Rattle.vault_types.specs.declared.Limits.{Limits}
@@ -19,7 +19,7 @@ use Rattle.vault_types.specs.Plans.{requests, IsLeast}
 use Rattle.vault_types.specs.Refusals.{is_of_state, may_refuse, refuses_by_state, IsExact}
 use Rattle.vault_types.specs.Script.{row_ids, after, is_refused, IsDone}
 use Rattle.vault_types.specs.Shelf.{Blobs, recipe_name}
-use Rattle.vault_types.specs.State.{State, KeptVersion, version_of, is_kept, floor_of, latest_of}
+use Rattle.vault_types.specs.State.{State, IsValid, KeptVersion, version_of, is_kept, floor_of, latest_of}
 use Rattle.vault_traits.specs.Counts.{Rose}
 use Rattle.vault_traits.specs.Crash.{History, LeavesNowIfTold, LeavesOnlyIfTold}
 use Rattle.vault_traits.specs.Told.{SinkTold}
@@ -33,12 +33,14 @@ use Rattle.keeper_core.proofs.Replacings.{version_there}
 use Rattle.script_laws.specs.Calls.{RestoresLine, HasWritten, IsShortAt}
 use Rattle.script_laws.specs.Causes.{CausesRise, fits, counts_of_sink}
 use Rattle.script_laws.specs.Complete.{IsWell, IsWellAnswered}
-use Rattle.script_laws.specs.Leaves.{Gets, StandsForOne}
-use Rattle.script_laws.specs.Steps.{StepsOn, StraysStep, BearsStep, ReachesFrom, answer_of}
+use Rattle.script_laws.specs.Leaves.{Gets}
+use Rattle.script_laws.specs.Steps.{StepsOn, StraysStep, BearsStep, StandsWith, answer_of}
 use Rattle.script_laws.specs.Table.{MeansLine, ShowsDamage}
-use Rattle.script_laws.proofs.Following.{near_one}
+use Rattle.script_laws.proofs.Following.{near_with}
 use Rattle.script_laws.proofs.LineLemmas.{unmoved, not_kept_means, not_kept_is}
+use Rattle.vault_types.specs.declared.Pending.TheVariants as pending
 use Rattle.serial_delete.specs.Keeping.{IsStateOf, IsKnownStray}
+use Rattle.serial_delete.proofs.Keeping.{changed_of, images_of}
 use Rattle.serial_restore.specs.Going.{IsAtMostLeast}
 use Rattle.serial_restore.specs.Restoring.{IsRestoreFault, IsBadPayloadOf, IsWrongSumOf, IsLeft, HasGone}
 use Rattle.serial_restore.proofs.Damages.{undamaged, shown}
@@ -103,12 +105,9 @@ module _ (limits : Limits) (S : State) (s n slots : ℕ) where
   -- a crash around a restore
   bears : (other : Option Change) (a : Answer) (old new : Option History) → after (λ _. []) S (Restore s n [] slots) a ≡ S → LeavesOnlyIfTold old new (IsNear S other) → BearsStep (λ _. []) S other (Restore s n [] slots) a other old new
   bears other a old new is leaves = record {
-    any_moment = more (IsNear S other) (StandsForOne May) (near_one S other May (inr (inl refl)) (λ T here. inl here)) old new leaves;
+    any_moment = more (IsNear S other) (λ c. StandsWith S other c ⊎ StandsWith (after (λ _. []) S (Restore s n [] slots) a) other c) (λ c near. inl (near_with S other c near)) old new leaves;
     behind = subst (λ (T : State). LeavesNowIfTold new (IsNear T other)) (sym is) (ends (IsNear S other) old new leaves);
   }
-    where
-      May : State → Type 0
-      May = ReachesFrom (λ _. []) S other (Restore s n [] slots ∷ []) (a ∷ [])
 
 -- ---- the line
 
@@ -122,11 +121,11 @@ module _ (v x : View) (before now : SinkTold) (s n slots : ℕ) (limits : Limits
   goes_from : (S : State) (other : Option Change) (a : Answer) (is : IsStateOf v S other) → Goes x is.core.state is.core.other a → Goes x S other a
   goes_from S other a is goes = subst (λ (T : State). Goes x T other a) is.state (subst (λ (o : Option Change). Goes x is.core.state o a) is.change goes)
 
-  module _ (K : Core) (keeps : Keeps v K) (no_job : K.job ≡ None) (no_pins : K.pins ≡ []) (told : IsSome v.told.blobs) where
+  module _ (K : Core) (keeps : Keeps v K) (no_job : K.job ≡ None) (no_pins : K.pins ≡ []) (told : IsSome v.told.blobs) (changed : IfSome K.other (λ h. IsValid h.state)) (images : v.pending ≡ pending.Not → LeavesNowIfTold v.told.history (IsNear K.state K.other)) where
     state_is : IsLeft v x s n → IsStateOf x K.state K.other
     state_is left =
         let stayed = left.state K keeps in
-        record { core = with_pins K.pins stayed.strays K; keeps = stayed.keeps; state = refl; change = refl; job = no_job; pins = no_pins; told = left.tells told }
+        record { core = with_pins K.pins stayed.strays K; keeps = stayed.keeps; state = refl; change = refl; job = no_job; pins = no_pins; told = left.tells told; changed = changed; images = λ e. ends (IsNear K.state K.other) _ _ (left.any_moment K keeps (images (keeps.pending ∙ sym stayed.keeps.pending ∙ e))) }
 
     module _ (k : KeptVersion) (there : version_of K.state s n ≡ Some k) (kept : is_kept K.state s n ≡ true) where
       rows_are : row_ids K.state s n ≡ map (λ r. r.id) k.rows
@@ -158,6 +157,7 @@ module _ (v x : View) (before now : SinkTold) (s n slots : ℕ) (limits : Limits
               gets = (is.loads, is.gets, least);
               strays = no_more (Restored s n (length (bytes_of K.state s n)) is.loads) gone.left;
               crash = λ images. bears limits K.state s n slots K.other (Restored s n (length (bytes_of K.state s n)) is.loads) v.told.history x.told.history refl (gone.left.any_moment K keeps images);
+              settles = λ done. cc;
             },
           )
 
@@ -175,6 +175,7 @@ module _ (v x : View) (before now : SinkTold) (s n slots : ℕ) (limits : Limits
               gets = (is.loads, is.gets, few is.loads (subst (λ (ids : List ℕ). IsAtMostLeast (requests ids) slots is.loads) (sym rows_are) is.few));
               strays = no_more (Refused f) gone.left;
               crash = λ images. bears limits K.state s n slots K.other (Refused f) v.told.history x.told.history refl (gone.left.any_moment K keeps images);
+              settles = λ done. cc;
             },
           )
 
@@ -198,7 +199,7 @@ module _ (v x : View) (before now : SinkTold) (s n slots : ℕ) (limits : Limits
         subst (λ (w : View). Goes w K.state K.other (answer_of result)) (sym same)
         (subst (λ (r : Result Answer Fault). Goes v K.state K.other (answer_of r)) (sym is) (
           K.other,
-          record { core = K; keeps = keeps; state = refl; change = refl; job = no_job; pins = no_pins; told = told },
+          record { core = K; keeps = keeps; state = refl; change = refl; job = no_job; pins = no_pins; told = told; changed = changed; images = images },
           unmoved limits (λ _. []) K.state K.other (Restore s n [] slots) (fault.NotKept s n (floor_of K.state s) (latest_of K.state s)) (IsKnownStray v) v.told
               (not_kept_means limits (λ _. []) K.state s n [] slots (floor_of K.state s) (latest_of K.state s) (sym kept) refl refl)
               (inr (inl (fault.NotKept s n (floor_of K.state s) (latest_of K.state s), not_kept_is limits K.state s n [] slots (floor_of K.state s) (latest_of K.state s) (sym kept) refl refl, refl))) refl,
@@ -229,7 +230,7 @@ restores v x before now s n slots result core range exact still gone = record {
   done = done result gone.kind;
   kind = λ limits. fitting limits result gone.kind gone.cause;
   causes = rising result gone.kind gone.cause;
-  steps = λ S other limits here. goes_from v x before now s n slots limits S other (answer_of result) here (steps_in limits here.core here.keeps here.job here.pins here.told (is_kept here.core.state s n) refl);
+  steps = λ S other limits here. goes_from v x before now s n slots limits S other (answer_of result) here (steps_in limits here.core here.keeps here.job here.pins here.told (changed_of v S other here) (images_of v S other here) (is_kept here.core.state s n) refl);
   written = λ S other here. subst (λ (T : State). HasWritten T s n (answer_of result) before.taken now.taken) here.state (written_in here.core here.keeps here.told (is_kept here.core.state s n) refl);
   short = λ S other here. subst (λ (T : State). IfErr result (IsShortAt (bytes_of T s n) before.taken now.taken)) here.state (short_in here.core here.keeps here.told (is_kept here.core.state s n) refl);
 }
@@ -247,11 +248,11 @@ restores v x before now s n slots result core range exact still gone = record {
     rising (Ok a) is cause = causes_done v x before now core.0.state s n slots gone.left.later gone.sink is.0 is.1 a is.2
     rising (Err f) is cause = causes_err v x before now core.0.state s n slots gone.left.later gone.sink f (cause core.0 core.1)
 
-    steps_in : (limits : Limits) (K : Core) → Keeps v K → K.job ≡ None → K.pins ≡ [] → IsSome v.told.blobs → (b : Bool) → is_kept K.state s n ≡ b → Goes v x before now s n slots limits x K.state K.other (answer_of result)
-    steps_in limits K keeps no_job no_pins told true kept =
+    steps_in : (limits : Limits) (K : Core) → Keeps v K → K.job ≡ None → K.pins ≡ [] → IsSome v.told.blobs → IfSome K.other (λ h. IsValid h.state) → (v.pending ≡ pending.Not → LeavesNowIfTold v.told.history (IsNear K.state K.other)) → (b : Bool) → is_kept K.state s n ≡ b → Goes v x before now s n slots limits x K.state K.other (answer_of result)
+    steps_in limits K keeps no_job no_pins told changed images true kept =
         let k = version_there K.state s n keeps.core.state kept in
-        kept_goes v x before now s n slots limits K keeps no_job no_pins told k.0 k.1 kept (let sets = keeps.core.state.sets in omega (arith, range, sets)) result gone
-    steps_in limits K keeps no_job no_pins told false kept = not_kept_goes v x before now s n slots limits K keeps no_job no_pins told result kept (exact K keeps kept) (still K keeps kept).0
+        kept_goes v x before now s n slots limits K keeps no_job no_pins told changed images k.0 k.1 kept (let sets = keeps.core.state.sets in omega (arith, range, sets)) result gone
+    steps_in limits K keeps no_job no_pins told changed images false kept = not_kept_goes v x before now s n slots limits K keeps no_job no_pins told changed images result kept (exact K keeps kept) (still K keeps kept).0
 
     written_in : (K : Core) → Keeps v K → IsSome v.told.blobs → (b : Bool) → is_kept K.state s n ≡ b → HasWritten K.state s n (answer_of result) before.taken now.taken
     written_in K keeps told true kept =

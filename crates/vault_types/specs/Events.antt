@@ -174,13 +174,14 @@ pub record HasChange (S : State) (h : Change) (c : Blobs) : Type 0 where
 abbrev pub IsNear : State → Option Change → Blobs → Type 0
 IsNear S other c = Stands c S ⊎ IsSomeAnd other (λ h. HasChange S h c)
 
--- the change is that of a commit or of a deletion of the set
+-- the change is that of a commit or of a deletion of the set, and its state is valid
 pub record IsChange (S : State) (s : ℕ) (h : Change) : Type 0 where
   pub in_range : s < length S.datasets
   pub kind : ((h.name ≡ recipe_name s (latest_of S s + 1)) × (floor_of h.state s ≡ floor_of S s))
       ⊎ ((h.name ≡ floor_name s) × (IsNeeded h.state [] (recipe_name s (latest_of S s + 1)) → ⊥))
   pub containers : (c : Container) → Contains h.state.containers c → Contains S.containers c ⊎ (next_of S ≤ c.table.id)
   pub sets : length h.state.datasets ≡ length S.datasets
+  pub valid : IsValid h.state
 
 -- the state is valid, the job numbers its containers from the first free id on, what a pin lists is as the state has it,
 -- and a change is that of the set whose write failed

@@ -14,6 +14,7 @@ returns-clause-line g c = deletes _ _ _ _ _ (record {
   tells = c.delete_through.ensures.tells;
   any_moment = c.delete_through.ensures.any_moment;
   acknowledged = c.delete_through.ensures.acknowledged;
+  due = c.delete_through.ensures.due;
   few = c.delete_through.ensures.few;
   gets = c.delete_through.ensures.gets;
 })

@@ -1,3 +1,4 @@
+use Rattle.std.specs.Prelude.{true}
 use Rattle.std.proofs.Common.{◌∙◌, ap, sym, subst, refl, inr, List}
 use Rattle.std.specs.List.{AllByRecursion}
 use Rattle.vault_types.specs.declared.Line.{Line}
@@ -34,7 +35,7 @@ returns-in-Err-run_over g c =
     let e = x.ensures in
     let before : World = record { shelf = old; places = p; input = i c.args.input; out = o c.args.out; report = r c.args.report.now } in
     let now : World = record { shelf = s x.result.shelf; places = p; input = i x.result.input; out = o x.result.out; report = r x.new.report } in
-    not_opened (RunsFill c.args.seed c.args.versions c.args.limits.now) before now x.result.answers.items x.result.fault c.in-Err-run_over.fault x.result.status
+    not_opened (RunsFill true c.args.seed c.args.versions c.args.limits.now) before now x.result.answers.items x.result.fault c.in-Err-run_over.fault x.result.status
     (subst (λ (t : ShelfTold). IsSameBut old t × IsStartFault old t c.in-Err-run_over.fault) (sym (ap s e.shelf)) c.in-Err-run_over.ensures.err)
     e.fault e.none refl (ap i e.input) (ap o e.out) e.line e.status
 

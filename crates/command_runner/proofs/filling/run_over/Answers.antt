@@ -1,3 +1,4 @@
+use Rattle.std.specs.Prelude.{true}
 use Rattle.std.proofs.Common.{sym, subst, None}
 use Rattle.vault_types.specs.State.{State}
 use Rattle.vault_traits.specs.Told.{ShelfTold}
@@ -13,8 +14,8 @@ returns-in-Ok-script_plain-clause-runs g c =
     let p = g.Q.Places.told c.args.places.now in
     let q = g.Q.Places.told c.script_plain.new.places in
     let done = c.in-Ok-script_plain.done in
-    subst (λ (t : ShelfTold). RunsLines (Begins old) (StraysOf old) c.args.limits.now c.args.lines.now done.answers.items old t p q) (sym c.close-in-Ok-script_plain.ensures)
-    (runs_opened c.args.limits.now c.args.lines.now done.answers.items old (g.K.StateKeeper.shelf c.in-Ok.store) (g.K.StateKeeper.shelf done.store) p q (λ (T : State). g.K.StateKeeper.keeps c.in-Ok.store T None) (Begins old)
+    subst (λ (t : ShelfTold). RunsLines true (Begins old) (StraysOf old) c.args.limits.now c.args.lines.now done.answers.items old t p q) (sym c.close-in-Ok-script_plain.ensures)
+    (runs_opened true c.args.limits.now c.args.lines.now done.answers.items old (g.K.StateKeeper.shelf c.in-Ok.store) (g.K.StateKeeper.shelf done.store) p q (λ (T : State). g.K.StateKeeper.keeps c.in-Ok.store T None) (Begins old)
     (λ (T : State). g.K.StateKeeper.strays c.in-Ok.store) (StraysOf old) c.in-Ok.ensures.same c.in-Ok.ensures.keeps c.in-Ok.ensures.strays c.in-Ok-script_plain.ensures.runs)
 
 pub returns-in-Ok-script_plain-clause-room : goal.returns-in-Ok-script_plain-clause-room

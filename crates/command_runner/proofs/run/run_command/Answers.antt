@@ -1,3 +1,4 @@
+use Rattle.std.specs.Prelude.{true}
 use Rattle.std.proofs.Common.{◌≡◌, ◌∙◌, ap, List, ℕ, map, Option, Some, None}
 use Rattle.std.specs.Prelude.{string_bytes}
 use Rattle.vault_types.specs.declared.Command.{Command}
@@ -71,7 +72,7 @@ returns-in-Ok-Fill g c =
     let before : World = record { shelf = g.S.Shelf.told c.args.shelf; places = g.P.Places.told c.args.places.now; input = g.I.Source.told c.args.input; out = g.O.Sink.told c.args.out; report = g.R.Sink.told c.args.report.now } in
     let now : World = record { shelf = g.S.Shelf.told c.run_fill.result.shelf; places = g.P.Places.told c.args.places.now; input = g.I.Source.told c.run_fill.result.input; out = g.O.Sink.told c.run_fill.result.out; report = g.R.Sink.told c.run_fill.new.report } in
     let r = c.run_fill.result in
-    one_line (map string_bytes c.args.words.now) c.args.limits.now before now r.answers.items (command.Fill x.seed x.versions x.field-0-2 x.field-0-3 x.field-0-4) r.fault r.status (RunsFill x.seed x.versions c.args.limits.now)
+    one_line (map string_bytes c.args.words.now) c.args.limits.now before now r.answers.items (command.Fill x.seed x.versions x.field-0-2 x.field-0-3 x.field-0-4) r.fault r.status (RunsFill true x.seed x.versions c.args.limits.now)
     (x.ensures.ok ∙ ap (λ (d : Command). Some d) x.field-0-is) tt (λ ran. ran) c.run_fill.ensures
 
 pub returns-in-Ok-Migrate : goal.returns-in-Ok-Migrate

@@ -1,4 +1,7 @@
-use Rattle.std.proofs.Common.{◌≤◌, ◌∙◌, length, refl, arith}
+use Rattle.std.proofs.Common.{◌≡◌, ◌≤◌, ◌∙◌, ◌++◌, ℕ, List, length, take, drop, ap, sym, refl, arith}
+use Rattle.std.proofs.Math.Seq.{take-append_seam}
+use Rattle.std.proofs.lemmas.List.{take-append-drop}
+use Rattle.vault_types.specs.declared.Name.{Name}
 use Rattle.vault_types.specs.Events.{after_release}
 use Rattle.keeper_removals.proofs.Gone.{leaves_longer}
 use Rattle.keeper_removals.proofs.Released.{memo_released, held_released, gone_released, idle_released, within_released}
@@ -36,3 +39,13 @@ pub returns-clause-others : goal.returns-clause-others
 returns-clause-others g c K r n none =
     c.clean_from.ensures.others n
     (λ there. none (gone_released _ _ _ K c.args.no r _ (c.deref.ensures.value ∙ c.release-ids.ensures.ids) (c.release-ids.ensures.pins K.pins r.pins_are) _ _ c.let_unneeded_go.ensures.left c.len-start.result (omega (arith, c.len-start.ensures, c.args.catalog.now.strays.ok)) n there))
+
+pub returns-clause-added : goal.returns-clause-added
+returns-clause-added g c =
+    let r = c.requires.can.1 in
+    let left = c.let_unneeded_go.ensures.left r.memo.markers.0 r.memo.markers.1 in
+    let old : List Name = c.args.catalog.now.strays.items in
+    let now : List Name = c.clean_from.new.strays.items in
+    let start : c.len-start.result ≡ length old = omega (arith, c.len-start.ensures, c.args.catalog.now.strays.ok) in
+    let front : take c.len-start.result now ≡ old = c.clean_from.ensures.front ∙ ap (take c.len-start.result) left.strays_are ∙ ap (λ (k : ℕ). take k (old ++ left.added)) start ∙ take-append_seam old left.added in
+    (drop c.len-start.result now, sym (take-append-drop c.len-start.result now) ∙ ap (λ (xs : List Name). xs ++ drop c.len-start.result now) front)

@@ -9,6 +9,7 @@ returns-clause-ok g c =
       own = c.replace.ensures.own;
       tells = c.replace.ensures.tells;
       any_moment = c.replace.ensures.any_moment;
+      settled = c.replace.ensures.settled;
       same = c.replace.ensures.same;
       gets = c.replace.ensures.gets;
     })
@@ -22,6 +23,7 @@ returns-clause-err g c =
       own = c.replace.ensures.own;
       tells = c.replace.ensures.tells;
       any_moment = c.replace.ensures.any_moment;
+      settled = c.replace.ensures.settled;
       same = c.replace.ensures.same;
       gets = c.replace.ensures.gets;
     })
@@ -35,6 +37,7 @@ returns-clause-cause g c =
       own = c.replace.ensures.own;
       tells = c.replace.ensures.tells;
       any_moment = c.replace.ensures.any_moment;
+      settled = c.replace.ensures.settled;
       same = c.replace.ensures.same;
       gets = c.replace.ensures.gets;
     })

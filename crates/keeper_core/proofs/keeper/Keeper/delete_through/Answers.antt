@@ -1,4 +1,4 @@
-use Rattle.std.proofs.Common.{◌⊎◌, inl, inr, ◌<◌, List, refl, sym, subst, ap, ◌∙◌, arith, length}
+use Rattle.std.proofs.Common.{◌≡◌, ◌⊎◌, inl, inr, ◌<◌, List, refl, sym, subst, ap, ◌∙◌, arith, length}
 use Rattle.std.specs.Prelude.{IsSome}
 use Rattle.vault_types.specs.declared.Pending.TheVariants.{Not}
 use Rattle.vault_types.specs.State.{latest_of}
@@ -16,7 +16,7 @@ use Rattle.keeper_catalog.specs.Catalog.{memo_of}
 use Rattle.keeper_core.specs.Stands.{index_of, job_of}
 use Rattle.keeper_core.specs.Calls.{IsStill}
 use Rattle.keeper_core.proofs.Keeping.{sees_of, mended, sets_count}
-use Rattle.keeper_core.proofs.Removing.{mended_now, removing_of, deleted, floor_after, halved}
+use Rattle.keeper_core.proofs.Removing.{mended_now, mended_sure, removing_of, deleted, floor_after, halved}
 use Rattle.keeper_core.proofs.Refusing.{delete_tried, mending_refused, on_if, shelf_fault}
 use Rattle.keeper_core.proofs.keeper.Keeper.delete_through.Goals as goal
 
@@ -188,10 +188,8 @@ returns-in-Ok-clause-acknowledged g c K keeps here =
     let late = c.latest-latest.ensures K (subst (λ (v : View). Keeps v K) c.self.view_is k) in
     let low : c.args.through < latest_of K.state c.args.set = omega (arith, late, c.if-through-latest.false) in
     let r = removing_of _ (after_mend K.strays K) k2 none c.args.set c.args.through below low c.in-Here.index (ap index_of (sym c.in-Here.is)) refl in
-    let now = subst (λ (v : View). LeavesNowIfTold v.told.history (IsNear K.state K.other)) (sym c.self.view_is) here in
-    let P : Blobs → Type 0 = λ b. IsNear K.state K.other b ⊎ IsDeleting K.state c.args.set c.args.through b in
-    let first = c.mend_for.ensures.any_moment K sees now in
-    let mid = mended_now K c.self.inside.pending _ _ (λ e. alone K k.core.other Not (sym k.pending ∙ e) not_failed) first (λ waits. c.in_ok-mend_for.ensures.acknowledged waits K sees k.held) in
+    let now = λ (e : c.self.inside.pending ≡ Not). subst (λ (v : View). LeavesNowIfTold v.told.history (IsNear K.state K.other)) (sym c.self.view_is) (here (sym (ap (λ (v : View). v.pending) c.self.view_is) ∙ e)) in
+    let mid = mended_sure K c.self.inside.pending _ _ (λ e. alone K k.core.other Not (sym k.pending ∙ e) not_failed) (λ e. c.mend_for.ensures.any_moment K sees (now e)) (λ waits. c.in_ok-mend_for.ensures.acknowledged waits K sees k.held) in
     c.in-Ok.ensures.acknowledged (after_mend K.strays K) r k2.held mid
 
 pub returns-in_err-mend_for-clause-same : goal.returns-in_err-mend_for-clause-same

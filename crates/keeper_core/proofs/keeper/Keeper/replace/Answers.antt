@@ -7,7 +7,7 @@ use Rattle.vault_types.specs.Blobs.{recipe_bytes_2}
 use Rattle.vault_types.specs.Shelf.{Blobs, Stands, recipe_name, blob_at}
 use Rattle.vault_types.specs.Events.{Core, IsNear, Held, after_mend, after_refused}
 use Rattle.vault_traits.specs.Crash.{History, LeavesNowIfTold, LeavesOnlyIfTold}
-use Rattle.vault_traits.proofs.Moments.{then, more}
+use Rattle.vault_traits.proofs.Moments.{then, ends, more}
 use Rattle.recipe_store.specs.Damages.{IsRecipeDamage}
 use Rattle.keeper_parts.specs.Parts.{without_other}
 use Rattle.keeper_parts.proofs.Changing.{told_same, told_more, near_alone, version_high}
@@ -18,7 +18,7 @@ use Rattle.keeper_jobs.specs.Jobs.{Sees}
 use Rattle.keeper_jobs.proofs.Seeing.{alone, not_failed}
 use Rattle.keeper_open.proofs.Gathering.{causes_again}
 use Rattle.keeper_core.proofs.Keeping.{sees_of, mended}
-use Rattle.keeper_core.proofs.Removing.{mended_now}
+use Rattle.keeper_core.proofs.Removing.{mended_now, mended_sure}
 use Rattle.keeper_core.proofs.Replacings.{version_there, damage_before, whole_rules, of_state, says, spelled, unmended, refused, refused_keeps, waits_why, near_wider, err_any, others_stay, own_or_second, told_put}
 use Rattle.keeper_core.proofs.keeper.Keeper.replace.Goals as goal
 
@@ -250,3 +250,41 @@ returns-in_err-replace_recipe-clause-tells g c some = told_put c.with_whole-reci
 
 pub returns-clause-tells : goal.returns-clause-tells
 returns-clause-tells g c some = told_put c.with_whole-recipe.result _ _ c.replace_recipe.ensures.at_most (tells_same _ _ c.get_recipe.ensures.kept.blobs (c.mend_for.ensures.tells (subst (λ (v : View). IsSome v.told.blobs) (sym c.self.view_is) some)))
+
+pub returns-in_err-mend_for-clause-settled : goal.returns-in_err-mend_for-clause-settled
+returns-in_err-mend_for-clause-settled g c K keeps images e =
+    let k = subst (λ (v : View). Keeps v K) (sym c.self.view_is) keeps in
+    let sees = subst (λ (l : List SetInfo). Sees l c.self.inside.pending K) (sym c.deref.ensures.value) (sees_of _ K k) in
+    let now = λ (e : c.self.inside.pending ≡ Not). subst (λ (v : View). LeavesNowIfTold v.told.history (IsNear K.state K.other)) (sym c.self.view_is) (images (sym (ap (λ (v : View). v.pending) c.self.view_is) ∙ e)) in
+    let was : c.self.inside.pending ≡ Not = sym c.in_err-mend_for.ensures.waits ∙ e in
+    mended_now K c.self.inside.pending _ _ (λ p. alone K k.core.other Not (sym k.pending ∙ p) not_failed) (c.mend_for.ensures.any_moment K sees (now was)) (λ waits. absurd (waits was))
+
+pub returns-in_err-recipe-clause-settled : goal.returns-in_err-recipe-clause-settled
+returns-in_err-recipe-clause-settled g c K keeps images e =
+    let k = subst (λ (v : View). Keeps v K) (sym c.self.view_is) keeps in
+    let sees = subst (λ (l : List SetInfo). Sees l c.self.inside.pending K) (sym c.deref.ensures.value) (sees_of _ K k) in
+    let now = λ (e : c.self.inside.pending ≡ Not). subst (λ (v : View). LeavesNowIfTold v.told.history (IsNear K.state K.other)) (sym c.self.view_is) (images (sym (ap (λ (v : View). v.pending) c.self.view_is) ∙ e)) in
+    let mid = mended_sure K c.self.inside.pending _ _ (λ e. alone K k.core.other Not (sym k.pending ∙ e) not_failed) (λ e. c.mend_for.ensures.any_moment K sees (now e)) (λ waits. c.in_ok-mend_for.ensures.acknowledged waits K sees k.held) in
+    subst (λ (h : Option History). LeavesNowIfTold h (IsNear K.state None)) (sym c.get_recipe.ensures.kept.history) mid
+
+pub returns-in_err-replace_recipe-clause-settled : goal.returns-in_err-replace_recipe-clause-settled
+returns-in_err-replace_recipe-clause-settled g c K keeps images e =
+    let k = subst (λ (v : View). Keeps v K) (sym c.self.view_is) keeps in
+    let sees = subst (λ (l : List SetInfo). Sees l c.self.inside.pending K) (sym c.deref.ensures.value) (sees_of _ K k) in
+    let held = c.in_ok-mend_for.ensures.mended K sees k.held in
+    let below : c.args.set < 256 = omega (arith, c.ranges.set.fits) in
+    let of = of_state _ K k c.args.set c.args.version below (c.requires.kept K keeps) c.args.whole (λ some w at. c.requires.whole (subst (λ (v : View). IsSome v.told.blobs) c.self.view_is some) K w keeps at) (g.S.Shelf.told c.mend_for.new.shelf) c.mend_for.new.pending c.in_ok-mend_for.ensures.over (λ J s. c.mend_for.ensures.held J (subst (λ (l : List SetInfo). Sees l c.self.inside.pending J) (sym c.deref.ensures.value) s)) held c.in_ok-recipe.recipe c.with_whole-recipe.result c.in_ok-recipe.ensures.found c.with_whole-recipe.ensures _ c.get_recipe.ensures.kept.blobs in
+    let now = λ (e : c.self.inside.pending ≡ Not). subst (λ (v : View). LeavesNowIfTold v.told.history (IsNear K.state K.other)) (sym c.self.view_is) (images (sym (ap (λ (v : View). v.pending) c.self.view_is) ∙ e)) in
+    let mid = mended_sure K c.self.inside.pending _ _ (λ e. alone K k.core.other Not (sym k.pending ∙ e) not_failed) (λ e. c.mend_for.ensures.any_moment K sees (now e)) (λ waits. c.in_ok-mend_for.ensures.acknowledged waits K sees k.held) in
+    let behind = subst (λ (h : Option History). LeavesNowIfTold h (IsNear K.state None)) (sym c.get_recipe.ensures.kept.history) mid in
+    ends (IsNear K.state None) _ _ (subst (λ (h : Option History). LeavesOnlyIfTold h (g.S.Shelf.told c.replace_recipe.new.shelf).history (IsNear K.state None)) c.get_recipe.ensures.kept.history (c.replace_recipe.ensures.any_moment K.state of behind))
+
+pub returns-clause-settled : goal.returns-clause-settled
+returns-clause-settled g c K keeps images e =
+    let k = subst (λ (v : View). Keeps v K) (sym c.self.view_is) keeps in
+    let sees = subst (λ (l : List SetInfo). Sees l c.self.inside.pending K) (sym c.deref.ensures.value) (sees_of _ K k) in
+    let held = c.in_ok-mend_for.ensures.mended K sees k.held in
+    let below : c.args.set < 256 = omega (arith, c.ranges.set.fits) in
+    let read = told_same (λ m. Held m (without_other K)) _ _ c.get_recipe.ensures.kept.blobs held in
+    let of = of_state _ K k c.args.set c.args.version below (c.requires.kept K keeps) c.args.whole (λ some w at. c.requires.whole (subst (λ (v : View). IsSome v.told.blobs) c.self.view_is some) K w keeps at) (g.S.Shelf.told c.mend_for.new.shelf) c.mend_for.new.pending c.in_ok-mend_for.ensures.over (λ J s. c.mend_for.ensures.held J (subst (λ (l : List SetInfo). Sees l c.self.inside.pending J) (sym c.deref.ensures.value) s)) held c.in_ok-recipe.recipe c.with_whole-recipe.result c.in_ok-recipe.ensures.found c.with_whole-recipe.ensures _ c.get_recipe.ensures.kept.blobs in
+    c.in_ok-replace_recipe.ensures.acknowledged K.state of (told_more (λ m. Held m (without_other K)) (λ m. Stands m K.state) _ (λ m h. near_alone K.state m h.near) read)

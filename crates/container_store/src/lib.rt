@@ -73,7 +73,7 @@ pub fn put<S: Shelf>(alloc: Global, shelf: &mut S, sealed: &Sealed) -> Result<()
         (payload_name sealed.now.table.id) (Some (payload_of sealed.now)) (table_name sealed.now.table.id) (Some (table_bytes sealed.now.table)) }
 
     // For want of memory nothing was written, or the payload alone.
-    ensures memory { IsErrOf result fault.Memory → IsAsBefore (S.told shelf.old).blobs (S.told shelf.new).blobs (S.told shelf.old).history (S.told shelf.new).history
+    ensures memory { IsErrOf result fault.Memory → IsAsBefore (S.told shelf.old) (S.told shelf.new)
         ⊎ IsWritten (S.told shelf.old).blobs (S.told shelf.new).blobs (S.told shelf.old).history (S.told shelf.new).history (payload_name sealed.now.table.id) (Some (payload_of sealed.now)) }
     ensures gets { (S.told shelf.new).gets ≡ (S.told shelf.old).gets }
     ensures causes { HasCauses (S.told shelf.old).faults (S.told shelf.new).faults IsUndamaged result }
@@ -98,7 +98,7 @@ fn put_two<S: Shelf>(
         (payload_name id) (Some payload.now) (table_name id) (Some table.now) }
 
     // For want of memory nothing was written, or the payload alone.
-    ensures memory { IsErrOf result fault.Memory → IsAsBefore (S.told shelf.old).blobs (S.told shelf.new).blobs (S.told shelf.old).history (S.told shelf.new).history
+    ensures memory { IsErrOf result fault.Memory → IsAsBefore (S.told shelf.old) (S.told shelf.new)
         ⊎ IsWritten (S.told shelf.old).blobs (S.told shelf.new).blobs (S.told shelf.old).history (S.told shelf.new).history (payload_name id) (Some payload.now) }
     ensures gets { (S.told shelf.new).gets ≡ (S.told shelf.old).gets }
     ensures causes { HasCauses (S.told shelf.old).faults (S.told shelf.new).faults IsUndamaged result }
@@ -115,7 +115,7 @@ fn put_two<S: Shelf>(
 /// The table of a container, as the shelf has it. `StoreFault`, `Damaged`, `Memory`.
 pub fn get_table<S: Shelf>(alloc: Global, shelf: &mut S, id: Id) -> Result<Table, Fault>
     ensures found { IfOk result (λ t. (bytes : List ℕ) × Has (S.told shelf.old).blobs (table_name id) (Some bytes) × SpellsTable id bytes t) }
-    ensures kept { IsAsBefore (S.told shelf.old).blobs (S.told shelf.new).blobs (S.told shelf.old).history (S.told shelf.new).history }
+    ensures kept { IsAsBefore (S.told shelf.old) (S.told shelf.new) }
     ensures gets { (S.told shelf.new).gets ≡ (S.told shelf.old).gets }
     ensures causes { HasCauses (S.told shelf.old).faults (S.told shelf.new).faults (IsTableDamage (S.told shelf.old).blobs id) result }
 {
@@ -135,7 +135,7 @@ pub fn get_table<S: Shelf>(alloc: Global, shelf: &mut S, id: Id) -> Result<Table
 pub fn load<S: Shelf>(alloc: Global, shelf: &mut S, table: &Table) -> Result<Vec<u8>, Fault>
     requires { IsTable table.now }
     ensures loaded { IfOk result (λ bytes. IsLoaded (S.told shelf.old).blobs table.now bytes.items) }
-    ensures kept { IsAsBefore (S.told shelf.old).blobs (S.told shelf.new).blobs (S.told shelf.old).history (S.told shelf.new).history }
+    ensures kept { IsAsBefore (S.told shelf.old) (S.told shelf.new) }
     ensures gets { (S.told shelf.new).gets ≡ counted (S.told shelf.old).gets }
     ensures causes { HasCauses (S.told shelf.old).faults (S.told shelf.new).faults (IsPayloadDamage (S.told shelf.old).blobs table.now) result }
 {

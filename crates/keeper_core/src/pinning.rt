@@ -25,7 +25,7 @@ use row_spots::{Unplaced, spots_of};
 use set_markers::SetMarkers;
 use std::alloc::Global;
 use vault_traits::Shelf;
-use vault_types::{Fault, Fp, Id, Kind, Row, Set, Spot, Version, Why};
+use vault_types::{Fault, Fp, Id, Kind, Name, Row, Set, Spot, Version, Why};
 
 /// A pinned version: its pin, its length in bytes, where its chunks lie in the order of the version, and the SHA-1 of its
 /// bytes, where its recipe has it.
@@ -77,7 +77,7 @@ fn fault_of(set: Set, version: Version, unplaced: Unplaced) -> Fault
         Unplaced::Memory => Fault::Memory,
         Unplaced::BadRow(row) => Fault::Damaged {
             kind: Kind::Recipe,
-            number: u64::from(set) * 4_294_967_296 + u64::from(version),
+            number: Name::recipe(set, version).number,
             why: Why::BadRow(row),
         },
     }

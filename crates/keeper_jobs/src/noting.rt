@@ -21,16 +21,6 @@ use recipe_store::encode_recipe;
 use std::alloc::Global;
 use vault_types::{Id, Kind, Memory, Name, Recipe, Set, Version};
 
-// The name of a recipe.
-pub fn name_of(set: Set, version: Version) -> Name
-    ensures { result ≡ recipe_name set version }
-{
-    Name {
-        kind: Kind::Recipe,
-        number: u64::from(set) * 4_294_967_296 + u64::from(version),
-    }
-}
-
 // Room for the ids that a deletion may free once these are named too.
 fn make_spare(catalog: &mut Catalog, more: usize) -> Result<(), Memory>
     ensures same { (catalog.new.sets ≡ catalog.old.sets) × (catalog.new.tables ≡ catalog.old.tables) × (catalog.new.markers ≡ catalog.old.markers) × (catalog.new.strays ≡ catalog.old.strays) }
@@ -75,7 +65,7 @@ pub fn prepare(
     make_room(catalog, 1)?;
     let blob = encode_recipe(alloc, recipe)?;
     add_tables(alloc, index, &catalog.tables, job.first, job.next)?;
-    let _ = catalog.strays.push(name_of(recipe.set, recipe.version));
+    let _ = catalog.strays.push(Name::recipe(recipe.set, recipe.version));
     Ok((ids, blob))
 }
 
@@ -114,7 +104,7 @@ pub fn note_commit(catalog: &mut Catalog, job: JobInfo, recipe: Recipe, ids: &[I
     ensures same { catalog.new.tables.entries ≡ catalog.old.tables.entries }
     ensures room { (vec_capacity catalog.new.strays ≡ vec_capacity catalog.old.strays) × (vec_capacity catalog.new.freed ≡ vec_capacity catalog.old.freed) }
 {
-    let name = name_of(job.set, recipe.version);
+    let name = Name::recipe(job.set, recipe.version);
     let Recipe {
         version,
         next,

@@ -66,7 +66,7 @@ pub struct Opened {
 /// answered, the blobs are as before.
 pub fn open<S: Shelf>(alloc: Global, shelf: &mut S) -> Result<Opened, Fault>
     ensures opened { IfOk result (λ o. (T : State) × IsOpened (S.told shelf.old).blobs T o.catalog o.index) }
-    ensures kept { IsAsBefore (S.told shelf.old).blobs (S.told shelf.new).blobs (S.told shelf.old).history (S.told shelf.new).history }
+    ensures kept { IsAsBefore (S.told shelf.old) (S.told shelf.new) }
     ensures gets { (S.told shelf.new).gets ≡ (S.told shelf.old).gets }
     ensures causes { HasCauses (S.told shelf.old).faults (S.told shelf.new).faults (IsDamageOf (S.told shelf.old).blobs) result }
 {

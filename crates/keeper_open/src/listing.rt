@@ -8,26 +8,6 @@ ghost use Rattle.keeper_open.specs.Reading.{IsLastListed, IsLastDue};
 
 use vault_types::{Kind, Name, Set, Version};
 
-/// The name of the recipe of a version of a set.
-pub fn recipe_at(set: Set, version: Version) -> Name
-    ensures { result ≡ recipe_name set version }
-{
-    Name {
-        kind: Kind::Recipe,
-        number: u64::from(set) * 4_294_967_296 + u64::from(version),
-    }
-}
-
-/// The name of the floor of a set.
-pub fn floor_at(set: Set) -> Name
-    ensures { result ≡ floor_name set }
-{
-    Name {
-        kind: Kind::Floor,
-        number: u64::from(set),
-    }
-}
-
 /// Whether a name is listed.
 pub fn is_listed(names: &[Name], name: Name) -> bool
     ensures { (m : Blobs) → IsListing m names.now → result ≡ map.contains_key m name }
@@ -40,7 +20,7 @@ pub fn last_listed(names: &[Name], set: Set) -> Option<Version>
     ensures last { (m : Blobs) → IsListing m names.now → IsLastListed m set result }
     ensures high { IfSome result (λ v. v ≤ 4294967294) }
 {
-    match names.binary_search(&recipe_at(set, 4_294_967_294)) {
+    match names.binary_search(&Name::recipe(set, 4_294_967_294)) {
         Ok(_) => Some(4_294_967_294),
         Err(0) => None,
         Err(at) => version_in(set, names[at - 1]),

@@ -11,7 +11,7 @@ use keeper_catalog::distinct_ids;
 use set_markers::SetMarkers;
 use std::alloc::Global;
 use std::collections::{BTreeSet, HashMap};
-use vault_types::{Fp, Id, Memory, Recipe, Row, TableRow};
+use vault_types::{Fp, Id, Memory, Name, Recipe, Row, TableRow};
 
 /// A chunk in a container, as a row names it.
 #[derive(Clone, Copy, Debug, PartialEq, Eq, Hash)]
@@ -61,7 +61,7 @@ pub fn note(alloc: Global, notes: &mut Notes, recipe: &Recipe) -> Result<(), Mem
         .markers
         .commit(recipe.set, recipe.version, ids.as_slice());
     add_ids(&mut notes.ids, ids.as_slice())?;
-    let number = u64::from(recipe.set) * 4_294_967_296 + u64::from(recipe.version);
+    let number = Name::recipe(recipe.set, recipe.version).number;
     add_rows(&mut notes.places, number, rows)?;
     Ok(())
 }

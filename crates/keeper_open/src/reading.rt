@@ -11,7 +11,7 @@ ghost use Rattle.recipe_store.specs.Damages.{IsFloorIn, IsFloorDamage, IsRecipeD
 ghost use Rattle.keeper_open.specs.Damage.{ReadsRecipe, IsDamageOf};
 ghost use Rattle.keeper_open.specs.Reading.{SetRead, AreFloors, IsVersionDamage, IsSetRead, IsSetDamage, AreSets, all_recipes, AreNoted, NotesMore, IsFirstTable, IsFound};
 
-use crate::listing::{floor_at, is_listed, last_due, recipe_at};
+use crate::listing::{is_listed, last_due};
 use crate::notes::{Chunk, Notes, Place, note, strike};
 use container_store::get_table;
 use fp_index::Index;
@@ -31,7 +31,7 @@ pub fn read_floors<S: Shelf>(
 ) -> Result<Vec<Version>, Fault>
     requires listing { IfSome (S.told shelf.old).blobs (λ m. IsListing m names.now) }
     ensures read { IfOk result (λ floors. AreFloors (S.told shelf.old).blobs 0 floors.items × (length floors.items ≡ 256)) }
-    ensures kept { IsAsBefore (S.told shelf.old).blobs (S.told shelf.new).blobs (S.told shelf.old).history (S.told shelf.new).history }
+    ensures kept { IsAsBefore (S.told shelf.old) (S.told shelf.new) }
     ensures gets { (S.told shelf.new).gets ≡ (S.told shelf.old).gets }
     ensures causes { HasCauses (S.told shelf.old).faults (S.told shelf.new).faults (IsDamageOf (S.told shelf.old).blobs) result }
 {
@@ -51,11 +51,11 @@ fn floor_in<S: Shelf>(
 ) -> Result<Version, Fault>
     requires listing { IfSome (S.told shelf.old).blobs (λ m. IsListing m names.now) }
     ensures found { IfOk result (λ floor. IsFloorIn (S.told shelf.old).blobs set floor) }
-    ensures kept { IsAsBefore (S.told shelf.old).blobs (S.told shelf.new).blobs (S.told shelf.old).history (S.told shelf.new).history }
+    ensures kept { IsAsBefore (S.told shelf.old) (S.told shelf.new) }
     ensures gets { (S.told shelf.new).gets ≡ (S.told shelf.old).gets }
     ensures causes { HasCauses (S.told shelf.old).faults (S.told shelf.new).faults (IsFloorDamage (S.told shelf.old).blobs set) result }
 {
-    if is_listed(names, floor_at(set)) {
+    if is_listed(names, Name::floor(set)) {
         get_floor(alloc, shelf, set)
     } else {
         Ok(1)
@@ -75,7 +75,7 @@ pub fn read_sets<S: Shelf>(
     requires count { length floors.now ≡ 256 }
     ensures read { IfOk result (λ sets. (ds : List SetRead) × (map (λ d. d.info) ds ≡ sets.items) × (length ds ≡ 256) × AreSets (S.told shelf.old).blobs 0 ds
         × (AreNoted notes.old [] → AreNoted notes.new (all_recipes ds))) }
-    ensures kept { IsAsBefore (S.told shelf.old).blobs (S.told shelf.new).blobs (S.told shelf.old).history (S.told shelf.new).history }
+    ensures kept { IsAsBefore (S.told shelf.old) (S.told shelf.new) }
     ensures gets { (S.told shelf.new).gets ≡ (S.told shelf.old).gets }
     ensures causes { HasCauses (S.told shelf.old).faults (S.told shelf.new).faults (IsDamageOf (S.told shelf.old).blobs) result }
 {
@@ -99,7 +99,7 @@ fn read_set<S: Shelf>(
     requires listing { IfSome (S.told shelf.old).blobs (λ m. IsListing m names.now) }
     requires floor { IsFloorIn (S.told shelf.old).blobs set floor }
     ensures read { IfOk result (λ info. (rs : List Recipes) × IsSetRead (S.told shelf.old).blobs set info rs × (info.floor ≡ floor) × NotesMore notes.old notes.new (set * 2 ^ 32) rs) }
-    ensures kept { IsAsBefore (S.told shelf.old).blobs (S.told shelf.new).blobs (S.told shelf.old).history (S.told shelf.new).history }
+    ensures kept { IsAsBefore (S.told shelf.old) (S.told shelf.new) }
     ensures gets { (S.told shelf.new).gets ≡ (S.told shelf.old).gets }
     ensures causes { HasCauses (S.told shelf.old).faults (S.told shelf.new).faults (IsSetDamage (S.told shelf.old).blobs set floor) result }
 {
@@ -131,7 +131,7 @@ fn read_version<S: Shelf>(
 ) -> Result<Recipe, Fault>
     requires listing { IfSome (S.told shelf.old).blobs (λ m. IsListing m names.now) }
     ensures found { IfOk result (λ r. ReadsRecipe (S.told shelf.old).blobs set version r × (low ≤ r.next)) }
-    ensures kept { IsAsBefore (S.told shelf.old).blobs (S.told shelf.new).blobs (S.told shelf.old).history (S.told shelf.new).history }
+    ensures kept { IsAsBefore (S.told shelf.old) (S.told shelf.new) }
     ensures gets { (S.told shelf.new).gets ≡ (S.told shelf.old).gets }
     ensures causes { HasCauses (S.told shelf.old).faults (S.told shelf.new).faults (IsVersionDamage (S.told shelf.old).blobs set version low) result }
 {
@@ -141,7 +141,7 @@ fn read_version<S: Shelf>(
             before: low,
             found: recipe.next,
         };
-        return Err(damaged(recipe_at(set, version), why));
+        return Err(damaged(Name::recipe(set, version), why));
     }
     Ok(recipe)
 }
@@ -155,11 +155,11 @@ fn recipe_in<S: Shelf>(
 ) -> Result<Recipe, Fault>
     requires listing { IfSome (S.told shelf.old).blobs (λ m. IsListing m names.now) }
     ensures found { IfOk result (ReadsRecipe (S.told shelf.old).blobs set version) }
-    ensures kept { IsAsBefore (S.told shelf.old).blobs (S.told shelf.new).blobs (S.told shelf.old).history (S.told shelf.new).history }
+    ensures kept { IsAsBefore (S.told shelf.old) (S.told shelf.new) }
     ensures gets { (S.told shelf.new).gets ≡ (S.told shelf.old).gets }
     ensures causes { HasCauses (S.told shelf.old).faults (S.told shelf.new).faults (IsRecipeDamage (S.told shelf.old).blobs set version) result }
 {
-    let name = recipe_at(set, version);
+    let name = Name::recipe(set, version);
     if is_listed(names, name) {
         get_recipe(alloc, shelf, set, version)
     } else {
@@ -194,7 +194,7 @@ pub fn read_tables<S: Shelf>(
 ) -> Result<Found, Fault>
     requires { IsAscending ids.now }
     ensures read { IfOk result (λ found. (ts : List Tables) × IsFound (S.told shelf.old).blobs ids.now places.entries found ts) }
-    ensures kept { IsAsBefore (S.told shelf.old).blobs (S.told shelf.new).blobs (S.told shelf.old).history (S.told shelf.new).history }
+    ensures kept { IsAsBefore (S.told shelf.old) (S.told shelf.new) }
     ensures gets { (S.told shelf.new).gets ≡ (S.told shelf.old).gets }
     ensures causes { HasCauses (S.told shelf.old).faults (S.told shelf.new).faults (IsFirstTable (S.told shelf.old).blobs ids.now) result }
 {

@@ -19,16 +19,7 @@ use container_store::Sealed;
 use recipe_store::{put_floor, remove_recipe};
 use std::alloc::Global;
 use vault_traits::{Refused, Shelf};
-use vault_types::{Fault, Kind, Name, Set, Version};
-
-fn recipe_at(set: Set, version: Version) -> Name
-    ensures { result ≡ recipe_name set version }
-{
-    Name {
-        kind: Kind::Recipe,
-        number: u64::from(set) * 4_294_967_296 + u64::from(version),
-    }
-}
+use vault_types::{Fault, Name, Set, Version};
 
 /// Puts a container: its payload and then its table. `StoreFault`, `Memory`.
 pub fn put_container<S: Shelf>(alloc: Global, shelf: &mut S, sealed: &Sealed) -> Result<(), Fault>
@@ -117,7 +108,7 @@ pub fn commit<S: Shelf>(
     if shelf.settle().is_err() {
         return Err(Halt::Before(Refused::Failed));
     }
-    match shelf.put(alloc, recipe_at(set, version), recipe) {
+    match shelf.put(alloc, Name::recipe(set, version), recipe) {
         Ok(()) => (),
         Err(Refused::Memory) => return Err(Halt::Before(Refused::Memory)),
         Err(Refused::Failed) => return Err(Halt::Half),

@@ -28,7 +28,7 @@ use restore_pins::Pins;
 use set_markers::SetMarkers;
 use std::collections::BTreeMap;
 use vault_traits::Shelf;
-use vault_types::{Fault, Id, Kind, Name, Set, Table, Version};
+use vault_types::{Fault, Id, Name, Set, Table, Version};
 
 // Takes the versions of a set below a floor from the markers, and the ids that lose their last name by it into the list
 // that is kept for them.
@@ -87,15 +87,6 @@ fn forget_containers(
     }
 }
 
-fn recipe_at(set: Set, version: Version) -> Name
-    ensures { result ≡ recipe_name set version }
-{
-    Name {
-        kind: Kind::Recipe,
-        number: u64::from(set) * 4_294_967_296 + u64::from(version),
-    }
-}
-
 // Adds the names of the recipes below a floor to the strays, from the last one down to the one at the old floor.
 fn leave_recipes(strays: &mut Vec<Name>, set: Set, old: Version, floor: Version)
     requires range { old ≤ floor }
@@ -107,7 +98,7 @@ fn leave_recipes(strays: &mut Vec<Name>, set: Set, old: Version, floor: Version)
     let mut version = floor;
     while version > old {
         version -= 1;
-        let _ = strays.push(recipe_at(set, version));
+        let _ = strays.push(Name::recipe(set, version));
     }
 }
 

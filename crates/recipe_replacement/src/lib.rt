@@ -41,7 +41,7 @@ pub fn replace_recipe<S: Shelf>(
         → LeavesNowIfTold (S.told shelf.new).history (IsNear A None)) }
     ensures due { IfErr result (λ f. pending.new ≡ waits_after f recipe.now pending.old) }
     ensures not_due { OnOk result (pending.new ≡ pending.old) }
-    ensures memory { IsErrOf result fault.Memory → IsAsBefore (S.told shelf.old).blobs (S.told shelf.new).blobs (S.told shelf.old).history (S.told shelf.new).history }
+    ensures memory { IsErrOf result fault.Memory → IsAsBefore (S.told shelf.old) (S.told shelf.new) }
     ensures gets { (S.told shelf.new).gets ≡ (S.told shelf.old).gets }
     ensures causes { HasCauses (S.told shelf.old).faults (S.told shelf.new).faults IsUndamaged result }
 {

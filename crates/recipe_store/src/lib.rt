@@ -19,7 +19,7 @@ use blob_parts::{Unread, fault_of, sum_of};
 use recipe_form2::{decode2, encode2};
 use std::alloc::Global;
 use vault_traits::{Failed, Refused, Shelf};
-use vault_types::{Fault, Kind, Memory, Name, Recipe, Set, Version, Why};
+use vault_types::{Fault, Memory, Name, Recipe, Set, Version, Why};
 
 /// The blob of a recipe: of format 2 where it has the sum of its version, and else of format 1.
 pub fn encode_recipe(alloc: Global, recipe: &Recipe) -> Result<Vec<u8>, Memory>
@@ -95,14 +95,14 @@ pub fn put_recipe<S: Shelf>(alloc: Global, shelf: &mut S, recipe: &Recipe) -> Re
         (recipe_name recipe.now.set recipe.now.version) (Some (recipe_bytes recipe.now))) }
     ensures at_most { MayBeWritten (S.told shelf.old).blobs (S.told shelf.new).blobs (S.told shelf.old).history (S.told shelf.new).history
         (recipe_name recipe.now.set recipe.now.version) (Some (recipe_bytes recipe.now)) }
-    ensures memory { IsErrOf result fault.Memory → IsAsBefore (S.told shelf.old).blobs (S.told shelf.new).blobs (S.told shelf.old).history (S.told shelf.new).history }
+    ensures memory { IsErrOf result fault.Memory → IsAsBefore (S.told shelf.old) (S.told shelf.new) }
     ensures gets { (S.told shelf.new).gets ≡ (S.told shelf.old).gets }
     ensures causes { HasCauses (S.told shelf.old).faults (S.told shelf.new).faults IsUndamaged result }
 {
     let blob = encode_recipe(alloc, recipe)?;
     match shelf.put(
         alloc,
-        recipe_at(recipe.set, recipe.version),
+        Name::recipe(recipe.set, recipe.version),
         blob.as_slice(),
     ) {
         Ok(()) => Ok(()),
@@ -118,11 +118,11 @@ pub fn get_recipe<S: Shelf>(
     version: Version,
 ) -> Result<Recipe, Fault>
     ensures found { IfOk result (λ r. (bytes : List ℕ) × Has (S.told shelf.old).blobs (recipe_name set version) (Some bytes) × SpellsRecipe set version bytes r) }
-    ensures kept { IsAsBefore (S.told shelf.old).blobs (S.told shelf.new).blobs (S.told shelf.old).history (S.told shelf.new).history }
+    ensures kept { IsAsBefore (S.told shelf.old) (S.told shelf.new) }
     ensures gets { (S.told shelf.new).gets ≡ (S.told shelf.old).gets }
     ensures causes { HasCauses (S.told shelf.old).faults (S.told shelf.new).faults (IsRecipeDamage (S.told shelf.old).blobs set version) result }
 {
-    let name = recipe_at(set, version);
+    let name = Name::recipe(set, version);
     let bytes = match shelf.get(alloc, name) {
         Ok(Some(bytes)) => bytes,
         Ok(None) => return Err(damaged(name, Why::Absent)),
@@ -137,11 +137,11 @@ pub fn get_recipe<S: Shelf>(
 /// The floor of a set, as the shelf has it: 1 where there is none. `StoreFault`, `Damaged`, `Memory`.
 pub fn get_floor<S: Shelf>(alloc: Global, shelf: &mut S, set: Set) -> Result<Version, Fault>
     ensures found { IfOk result (λ floor. IsFloorIn (S.told shelf.old).blobs set floor) }
-    ensures kept { IsAsBefore (S.told shelf.old).blobs (S.told shelf.new).blobs (S.told shelf.old).history (S.told shelf.new).history }
+    ensures kept { IsAsBefore (S.told shelf.old) (S.told shelf.new) }
     ensures gets { (S.told shelf.new).gets ≡ (S.told shelf.old).gets }
     ensures causes { HasCauses (S.told shelf.old).faults (S.told shelf.new).faults (IsFloorDamage (S.told shelf.old).blobs set) result }
 {
-    let name = floor_at(set);
+    let name = Name::floor(set);
     let bytes = match shelf.get(alloc, name) {
         Ok(Some(bytes)) => bytes,
         Ok(None) => return Ok(1),
@@ -179,37 +179,19 @@ pub fn remove_recipe<S: Shelf>(shelf: &mut S, set: Set, version: Version) -> Res
     ensures gets { (S.told shelf.new).gets ≡ (S.told shelf.old).gets }
     ensures cause { HasFailed (S.told shelf.old).faults (S.told shelf.new).faults result }
 {
-    shelf.remove(recipe_at(set, version))
+    shelf.remove(Name::recipe(set, version))
 }
 
 /// Every name on the shelf, by kind and then by number. `StoreFault`, `Memory`.
 pub fn survey<S: Shelf>(alloc: Global, shelf: &mut S) -> Result<Vec<Name>, Fault>
     ensures names { IfOk result (λ names. IfSome (S.told shelf.old).blobs (λ m. IsListing m names.items)) }
-    ensures kept { IsAsBefore (S.told shelf.old).blobs (S.told shelf.new).blobs (S.told shelf.old).history (S.told shelf.new).history }
+    ensures kept { IsAsBefore (S.told shelf.old) (S.told shelf.new) }
     ensures gets { (S.told shelf.new).gets ≡ (S.told shelf.old).gets }
     ensures causes { HasCauses (S.told shelf.old).faults (S.told shelf.new).faults IsUndamaged result }
 {
     match shelf.list(alloc) {
         Ok(names) => Ok(names),
         Err(refused) => Err(fault_of(shelf, refused)),
-    }
-}
-
-fn recipe_at(set: Set, version: Version) -> Name
-    ensures { result ≡ recipe_name set version }
-{
-    Name {
-        kind: Kind::Recipe,
-        number: u64::from(set) * 4_294_967_296 + u64::from(version),
-    }
-}
-
-fn floor_at(set: Set) -> Name
-    ensures { result ≡ floor_name set }
-{
-    Name {
-        kind: Kind::Floor,
-        number: u64::from(set),
     }
 }
 

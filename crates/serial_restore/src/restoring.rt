@@ -14,7 +14,7 @@ use crate::copying::copy_pinned;
 use keeper_core::{Keeper, Pinned};
 use std::alloc::Global;
 use vault_traits::{Shelf, Sink};
-use vault_types::{Answer, Fault, Fp, Set, Version, Whole};
+use vault_types::{Answer, Fault, Fp, Name, Set, Version, Whole};
 
 // The sum that a version should have, by the number of its recipe.
 fn whole_of(set: Set, version: Version, sum: Option<Fp>) -> Option<Whole>
@@ -22,7 +22,7 @@ fn whole_of(set: Set, version: Version, sum: Option<Fp>) -> Option<Whole>
 {
     match sum {
         Some(want) => Some(Whole {
-            number: u64::from(set) * 4_294_967_296 + u64::from(version),
+            number: Name::recipe(set, version).number,
             want,
         }),
         None => None,

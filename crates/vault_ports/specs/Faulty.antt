@@ -1,10 +1,11 @@
 -- What is seen of a shelf whose numbered calls fail.
-use Rattle.std.specs.Prelude.{◌≡◌, ℕ, List, Bool, cond, Option, Contains, refl}
+use Rattle.std.specs.Prelude.{◌≡◌, ℕ, List, Bool, cond, Option, Some, None, Contains, refl}
 use Rattle.std.specs.Coded.{Coded, code_by, coded×, coded_ℕ, coded_list, coded_bool}
 use Rattle.vault_types.specs.declared.Name.{Name}
 use Rattle.vault_types.specs.Shelf.{Blobs, with_blob}
 use Rattle.vault_traits.specs.Codes.{coded_blobs}
 use Rattle.vault_traits.specs.Counts.{counted}
+use Rattle.vault_traits.specs.Told.{ShelfTold}
 use Rattle.vault_ports.specs.Failing.{counted_if}
 
 -- the blobs, and the count of payload gets; the numbers of the calls that fail, and whether a write that fails is done;
@@ -23,6 +24,10 @@ coded_faulty = code_by (Blobs × (ℕ × (List ℕ × (Bool × (ℕ × ℕ)))))
     (λ s. (s.blobs, (s.gets, (s.fail, (s.keep, (s.calls, s.faults))))))
     (λ p. record { blobs = p.0; gets = p.1.0; fail = p.1.1.0; keep = p.1.1.1.0; calls = p.1.1.1.1.0; faults = p.1.1.1.1.1 })
     (λ _. refl)
+
+-- its blobs are told, and no steps
+abbrev pub told_of : FaultyShelf → ShelfTold
+told_of s = record { blobs = Some s.blobs; history = None; faults = s.faults; gets = s.gets }
 
 -- the number of the call that comes now is among those
 abbrev pub FailsNow : FaultyShelf → Type 0

@@ -6,7 +6,7 @@ ghost use Rattle.vault_types.specs.Shelf.{floor_name};
 ghost use Rattle.vault_traits.specs.Counts.{counted, HasCause, HasFailed};
 ghost use Rattle.vault_traits.specs.Shelf.{gets_after, IsWritten, MayBeWritten, IsAsBefore, IsListing};
 ghost use Rattle.vault_ports.specs.Failing.{is_failed};
-ghost use Rattle.vault_ports.specs.Faulty.{FailsNow, IsCounted, done_if};
+ghost use Rattle.vault_ports.specs.Faulty.{FailsNow, IsCounted, done_if, told_of};
 
 use crate::mem_shelf::{MemShelf, count_get};
 use crate::numbered::Numbered;
@@ -84,11 +84,11 @@ impl FaultShelf {
 impl Shelf for FaultShelf {
     ghost use Rattle.vault_ports.specs.Mem.{none_told};
 
-    ghost told = { λ s. record { blobs = Some s.blobs; history = None; faults = s.faults; gets = s.gets } };
+    ghost told = { λ s. told_of s };
 
     fn get(&mut self, alloc: Global, name: Name) -> Result<Option<Vec<u8>>, Refused>
         ensures found { IfOk result (λ found. option_map (λ v. v.items) found ≡ map.get self.old.blobs name) }
-        ensures kept { IsAsBefore (Some self.old.blobs) (Some self.new.blobs) None None }
+        ensures kept { IsAsBefore (told_of self.old) (told_of self.new) }
         ensures gets { self.new.gets ≡ gets_after name.kind self.old.gets }
         ensures cause { HasCause self.old.faults self.new.faults result }
         ensures fails { IsErrOf result Refused.Failed ↔ FailsNow self.old }
@@ -107,7 +107,7 @@ impl Shelf for FaultShelf {
         requires { name.kind ≢ Kind.Floor }
         ensures ok { OnOk result (IsWritten (Some self.old.blobs) (Some self.new.blobs) None None name (Some bytes.now)) }
         ensures at_most { MayBeWritten (Some self.old.blobs) (Some self.new.blobs) None None name (Some bytes.now) }
-        ensures memory { IsErrOf result Refused.Memory → IsAsBefore (Some self.old.blobs) (Some self.new.blobs) None None }
+        ensures memory { IsErrOf result Refused.Memory → IsAsBefore (told_of self.old) (told_of self.new) }
         ensures gets { self.new.gets ≡ self.old.gets }
         ensures cause { HasCause self.old.faults self.new.faults result }
         ensures fails { IsErrOf result Refused.Failed → FailsNow self.old }
@@ -165,7 +165,7 @@ impl Shelf for FaultShelf {
 
     fn list(&mut self, alloc: Global) -> Result<Vec<Name>, Refused>
         ensures names { IfOk result (λ names. IsListing self.old.blobs names.items) }
-        ensures kept { IsAsBefore (Some self.old.blobs) (Some self.new.blobs) None None }
+        ensures kept { IsAsBefore (told_of self.old) (told_of self.new) }
         ensures gets { self.new.gets ≡ self.old.gets }
         ensures cause { HasCause self.old.faults self.new.faults result }
         ensures fails { IsErrOf result Refused.Failed ↔ FailsNow self.old }

@@ -12,6 +12,7 @@ use Rattle.std.specs.Set.{is_member}
 use Rattle.std.specs.Ordering.{eq_by_cmp}
 use Rattle.vault_types.specs.Shelf.{name_cmp}
 use Rattle.vault_traits.specs.Crash.{Wrote, Settled, History}
+use Rattle.vault_traits.specs.Told.{ShelfTold}
 
 -- the count of payload gets after a get
 abbrev pub gets_after : Kind → ℕ → ℕ
@@ -44,9 +45,9 @@ pub record MayBeWritten (before after : Option Blobs) (past now : Option History
   pub history : (now ≡ past) ⊎ (now ≡ history_with past name bytes)
 
 -- nothing was written
-pub record IsAsBefore (before after : Option Blobs) (past now : Option History) : Type 0 where
-  pub blobs : after ≡ before
-  pub history : now ≡ past
+pub record IsAsBefore (before after : ShelfTold) : Type 0 where
+  pub blobs : after.blobs ≡ before.blobs
+  pub history : after.history ≡ before.history
 
 -- each name once, by kind and then by number
 pub record IsListing (m : Blobs) (names : List Name) : Type 0 where

@@ -23,7 +23,7 @@ pub trait Shelf {
     /// What is under a name. It counts a get of a payload. After an `Err` nothing has changed.
     fn get(&mut self, alloc: Global, name: Name) -> Result<Option<Vec<u8>>, Refused>
         ensures found { IfOk result (λ found. IfSome (told self.old).blobs (λ m. option_map (λ v. v.items) found ≡ map.get m name)) }
-        ensures kept { IsAsBefore (told self.old).blobs (told self.new).blobs (told self.old).history (told self.new).history }
+        ensures kept { IsAsBefore (told self.old) (told self.new) }
         ensures gets { (told self.new).gets ≡ gets_after name.kind (told self.old).gets }
         ensures cause { HasCause (told self.old).faults (told self.new).faults result };
 
@@ -33,7 +33,7 @@ pub trait Shelf {
         requires { name.kind ≢ Kind.Floor }
         ensures ok { OnOk result (IsWritten (told self.old).blobs (told self.new).blobs (told self.old).history (told self.new).history name (Some bytes.now)) }
         ensures at_most { MayBeWritten (told self.old).blobs (told self.new).blobs (told self.old).history (told self.new).history name (Some bytes.now) }
-        ensures memory { IsErrOf result Refused.Memory → IsAsBefore (told self.old).blobs (told self.new).blobs (told self.old).history (told self.new).history }
+        ensures memory { IsErrOf result Refused.Memory → IsAsBefore (told self.old) (told self.new) }
         ensures gets { (told self.new).gets ≡ (told self.old).gets }
         ensures cause { HasCause (told self.old).faults (told self.new).faults result };
 
@@ -55,7 +55,7 @@ pub trait Shelf {
     /// Every name once, by kind and then by number. After an `Err` nothing has changed.
     fn list(&mut self, alloc: Global) -> Result<Vec<Name>, Refused>
         ensures names { IfOk result (λ names. IfSome (told self.old).blobs (λ m. IsListing m names.items)) }
-        ensures kept { IsAsBefore (told self.old).blobs (told self.new).blobs (told self.old).history (told self.new).history }
+        ensures kept { IsAsBefore (told self.old) (told self.new) }
         ensures gets { (told self.new).gets ≡ (told self.old).gets }
         ensures cause { HasCause (told self.old).faults (told self.new).faults result };
 

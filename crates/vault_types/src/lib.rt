@@ -302,14 +302,6 @@ pub enum Answer {
     Refused(Fault),
 }
 
-/// What travels between two threads: a part, the end, or a fault in its place.
-#[derive(Drop)]
-pub enum Item<T> {
-    Part(T),
-    End,
-    Failed(Fault),
-}
-
 /// What travels between two stages of a backup. `Stopped` is the end of one that has failed elsewhere.
 #[derive(Drop)]
 pub enum Flow<T> {
@@ -396,6 +388,30 @@ pub enum Command {
     Scrub {
         workers: u32,
     },
+}
+
+impl Name {
+    ghost use Rattle.vault_types.specs.Shelf.{recipe_name, floor_name};
+
+    /// The name of a version's recipe.
+    pub fn recipe(set: Set, version: Version) -> Name
+        ensures { result ≡ recipe_name set version }
+    {
+        Name {
+            kind: Kind::Recipe,
+            number: u64::from(set) * 4_294_967_296 + u64::from(version),
+        }
+    }
+
+    /// The name of a set's floor.
+    pub fn floor(set: Set) -> Name
+        ensures { result ≡ floor_name set }
+    {
+        Name {
+            kind: Kind::Floor,
+            number: u64::from(set),
+        }
+    }
 }
 
 impl Limits {

@@ -11,7 +11,7 @@ use Rattle.keeper_parts.proofs.commit.Goals as goal
 pub returns-in-Err-Memory-clause-any_moment : goal.returns-in-Err-Memory-clause-any_moment
 returns-in-Err-Memory-clause-any_moment g c A B can images =
     written _ _ (g.met.S.Shelf.reads_an_image c.args.shelf.now) _ _ A B can images _ (done_of c.settle.result (sym c.is_err.ensures.value ∙ c.if-is_err.false) c.settle.ensures.ok)
-    (renamed (recipe_name c.args.set c.args.version) c.recipe_at.ensures c.put.ensures.at_most)
+    (renamed (recipe_name c.args.set c.args.version) c.recipe.ensures c.put.ensures.at_most)
 
 abbrev error : Refused → Result (Unit {0}) Refused
 error e = Err e
@@ -25,18 +25,18 @@ returns-in-Err-Memory-clause-still g c r is A images =
 pub returns-in-Err-Failed-clause-any_moment : goal.returns-in-Err-Failed-clause-any_moment
 returns-in-Err-Failed-clause-any_moment g c A B can images =
     written _ _ (g.met.S.Shelf.reads_an_image c.args.shelf.now) _ _ A B can images _ (done_of c.settle.result (sym c.is_err.ensures.value ∙ c.if-is_err.false) c.settle.ensures.ok)
-    (renamed (recipe_name c.args.set c.args.version) c.recipe_at.ensures c.put.ensures.at_most)
+    (renamed (recipe_name c.args.set c.args.version) c.recipe.ensures c.put.ensures.at_most)
 
 pub returns-then-is_err-2-clause-any_moment : goal.returns-then-is_err-2-clause-any_moment
 returns-then-is_err-2-clause-any_moment g c A B can images =
     let P : Blobs → Type 0 = IsNear A (Some (change (recipe_name c.args.set c.args.version) c.args.recipe.now B)) in
     let so_far = written _ _ (g.met.S.Shelf.reads_an_image c.args.shelf.now) _ _ A B can images _ (done_of c.settle.result (sym c.is_err.ensures.value ∙ c.if-is_err.false) c.settle.ensures.ok)
-    (renamed (recipe_name c.args.set c.args.version) c.recipe_at.ensures c.put.ensures.at_most) in
+    (renamed (recipe_name c.args.set c.args.version) c.recipe.ensures c.put.ensures.at_most) in
     then P _ _ _ so_far (stays P _ _ (failed_of c.settle-2.result (sym c.is_err-2.ensures.value ∙ c.if-is_err-2.true) c.settle-2.ensures.failed) (ends P _ _ so_far))
 
 pub returns-clause-any_moment : goal.returns-clause-any_moment
 returns-clause-any_moment g c A B can images =
     settled_second _ _ (g.met.S.Shelf.reads_an_image c.args.shelf.now) _ _ A B can images _ (done_of c.settle.result (sym c.is_err.ensures.value ∙ c.if-is_err.false) c.settle.ensures.ok)
-    (renamed (recipe_name c.args.set c.args.version) c.recipe_at.ensures c.put.ensures.at_most)
+    (renamed (recipe_name c.args.set c.args.version) c.recipe.ensures c.put.ensures.at_most)
     (g.met.S.Shelf.reads_an_image c.put.new.self)
     (done_of c.settle-2.result (sym c.is_err-2.ensures.value ∙ c.if-is_err-2.false) c.settle-2.ensures.ok)

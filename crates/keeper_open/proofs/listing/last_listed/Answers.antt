@@ -8,10 +8,10 @@ abbrev none : Name
 none = record { kind = Table; number = 0 }
 
 pub returns-in-Ok-clause-last : goal.returns-in-Ok-clause-last
-returns-in-Ok-clause-last c = λ m listing. search_ok m c.args.names.now listing c.args.set c.binary_search.result c.recipe_at.result c.recipe_at.ensures c.binary_search.ensures.bound c.binary_search.ensures.position _ c.in-Ok.is
+returns-in-Ok-clause-last c = λ m listing. search_ok m c.args.names.now listing c.args.set c.binary_search.result c.recipe.result c.recipe.ensures c.binary_search.ensures.bound c.binary_search.ensures.position _ c.in-Ok.is
 
 pub returns-in-Err-eq0-clause-last : goal.returns-in-Err-eq0-clause-last
-returns-in-Err-eq0-clause-last c = λ m listing. search_none m c.args.names.now listing c.args.set c.binary_search.result c.recipe_at.result c.recipe_at.ensures c.binary_search.ensures.bound c.binary_search.ensures.position _ c.in-Err-eq0.is c.in-Err-eq0.field-0-test
+returns-in-Err-eq0-clause-last c = λ m listing. search_none m c.args.names.now listing c.args.set c.binary_search.result c.recipe.result c.recipe.ensures c.binary_search.ensures.bound c.binary_search.ensures.position _ c.in-Err-eq0.is c.in-Err-eq0.field-0-test
 
 pub returns-in-Err-clause-last : goal.returns-in-Err-clause-last
-returns-in-Err-clause-last c = λ m listing. search_at m c.args.names.now listing c.args.set c.binary_search.result c.recipe_at.result c.recipe_at.ensures c.binary_search.ensures.bound c.binary_search.ensures.position _ c.in-Err.is _ none (omega (arith, c.in-Err.at-test.1)) refl c.version_in.result c.version_in.ensures.found c.version_in.ensures.none
+returns-in-Err-clause-last c = λ m listing. search_at m c.args.names.now listing c.args.set c.binary_search.result c.recipe.result c.recipe.ensures c.binary_search.ensures.bound c.binary_search.ensures.position _ c.in-Err.is _ none (omega (arith, c.in-Err.at-test.1)) refl c.version_in.result c.version_in.ensures.found c.version_in.ensures.none

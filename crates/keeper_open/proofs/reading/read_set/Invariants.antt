@@ -8,7 +8,7 @@ abbrev pub invariant-loop-version : goal.invariant-loop-version
 invariant-loop-version g l =
     let s = g.S.Shelf in
     record {
-      kept : IsAsBefore ((s.told l.fn.shelf).blobs) ((s.told l.shelf).blobs) ((s.told l.fn.shelf).history) ((s.told l.shelf).history);
+      kept : IsAsBefore (s.told l.fn.shelf) (s.told l.shelf);
       gets : (s.told l.shelf).gets ≡ (s.told l.fn.shelf).gets;
       later : (s.told l.fn.shelf).faults ≤ (s.told l.shelf).faults;
       read : (rs : List Recipe) × AreVersions ((s.told l.fn.shelf).blobs) l.set l.floor l.version l.next l.sparse l.fn.notes l.notes rs;

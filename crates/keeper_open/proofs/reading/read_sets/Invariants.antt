@@ -8,7 +8,7 @@ abbrev pub invariant-loop-number : goal.invariant-loop-number
 invariant-loop-number g l =
     let s = g.S.Shelf in
     record {
-      kept : IsAsBefore ((s.told l.fn.shelf).blobs) ((s.told l.shelf).blobs) ((s.told l.fn.shelf).history) ((s.told l.shelf).history);
+      kept : IsAsBefore (s.told l.fn.shelf) (s.told l.shelf);
       gets : (s.told l.shelf).gets ≡ (s.told l.fn.shelf).gets;
       later : (s.told l.fn.shelf).faults ≤ (s.told l.shelf).faults;
       read : (ds : List SetRead) × AreFirstSets ((s.told l.fn.shelf).blobs) l.sets.items l.number l.fn.notes l.notes ds;

@@ -8,7 +8,7 @@ abbrev pub invariant-loop-id : goal.invariant-loop-id
 invariant-loop-id g l =
     let s = g.S.Shelf in
     record {
-      kept : IsAsBefore ((s.told l.fn.shelf).blobs) ((s.told l.shelf).blobs) ((s.told l.fn.shelf).history) ((s.told l.shelf).history);
+      kept : IsAsBefore (s.told l.fn.shelf) (s.told l.shelf);
       gets : (s.told l.shelf).gets ≡ (s.told l.fn.shelf).gets;
       later : (s.told l.fn.shelf).faults ≤ (s.told l.shelf).faults;
       read : (ts : List Table) × AreFirstTables ((s.told l.fn.shelf).blobs) (take l.id-index l.ids) l.tables.entries l.index l.fn.places.entries l.places.entries ts;

@@ -1,3 +1,2 @@
-mod Order
 mod Counting
 mod Ranking

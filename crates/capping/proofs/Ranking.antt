@@ -14,7 +14,7 @@ use Rattle.vault_types.specs.Lists.{has, set_of, sorted_by}
 use Rattle.vault_types.specs.Capping.{times, is_before}
 use Rattle.vault_types.proofs.SetLemmas.{has-set_of}
 use Rattle.capping.specs.Counts.{HasCounted, is_used_more}
-use Rattle.capping.proofs.Order.{IsRank, IsRanked, IsOnce, has-sorted_by, ranked-sorted_by, ranked_unique, once-sorted_by, once-set_of}
+use Rattle.vault_types.proofs.OrderLemmas.{IsRank, IsRanked, IsOnce, has-sorted_by, ranked-sorted_by, ranked_unique, once-sorted_by, once-set_of}
 
 -- a count and an id against another count and id
 abbrev ahead : ℕ → ℕ → ℕ → ℕ → Bool

@@ -9,7 +9,7 @@ use Rattle.chunk_ae.specs.declared.scan.Scan.{Scan}
 use Rattle.chunk_ae.specs.Held.{IsKept}
 use Rattle.chunk_ae.specs.Scans.{IsScan, IsEnd}
 use Rattle.chunk_ae.proofs.EndLemmas.{ae-stable}
-use Rattle.chunk_ae.proofs.StreamLemmas.{settled_whole}
+use Rattle.vault_types.proofs.FeedLemmas.{settled_whole}
 use Rattle.chunk_ae.proofs.ScanLemmas.{open-none}
 
 abbrev pub chunker : ℕ → ℕ → List ℕ → Chunker

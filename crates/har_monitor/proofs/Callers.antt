@@ -10,7 +10,7 @@ use Rattle.vault_types.specs.Lists.{has, set_of, with_number, insert_by, sorted_
 use Rattle.vault_types.specs.Sparse.{referenced, is_sparse, is_emptier, sparse_ids, sparse}
 use Rattle.vault_types.proofs.SetLemmas.{IsAscending-set_of}
 use Rattle.har_monitor.specs.Monitor.{Counted, HasSeen, NamesEach, ids_of}
-use Rattle.har_monitor.proofs.Order.{all-sorted_by}
+use Rattle.vault_types.proofs.OrderLemmas.{all-sorted_by}
 use Rattle.har_monitor.proofs.Ranking.{distinct_by-distinct}
 
 -- where the monitor has seen some rows, payloads for its ids name each of them once

@@ -1,4 +1,3 @@
-mod Order
 mod Seeing
 mod Parts
 mod Ranking

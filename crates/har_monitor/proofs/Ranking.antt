@@ -15,7 +15,7 @@ use Rattle.vault_types.proofs.SetLemmas.{has-set_of, IsAscending-set_of, ascendi
 use Rattle.har_monitor.specs.declared.used.Used.{Used}
 use Rattle.har_monitor.specs.Monitor.{Counted, HasSeen, NamesEach, ids_of, payload_of}
 use Rattle.har_monitor.specs.Used.{used_of, is_little_used, little_used, goes_first}
-use Rattle.har_monitor.proofs.Order.{IsRank, IsRanked, IsOnce, has-sorted_by, all-sorted_by, ranked-sorted_by, ranked_unique, once-sorted_by, once-set_of}
+use Rattle.vault_types.proofs.OrderLemmas.{IsRank, IsRanked, IsOnce, has-sorted_by, all-sorted_by, ranked-sorted_by, ranked_unique, once-sorted_by, once-set_of}
 use Rattle.har_monitor.proofs.Parts.{fewer-way, fewer-apart, fewer-chain, weak_order, not_empty}
 use Rattle.har_monitor.proofs.Seeing.{found-sum}
 

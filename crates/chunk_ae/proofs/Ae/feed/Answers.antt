@@ -1,7 +1,8 @@
 use Rattle.std.proofs.Common.{map, arith, length-drop}
 use Rattle.std.proofs.lemmas.List.{map-append}
 use Rattle.chunk_ae.specs.Held.{IsWhole}
-use Rattle.chunk_ae.proofs.StreamLemmas.{IsFed, way-begins, way-whole, way-ends, slice_behind}
+use Rattle.vault_types.proofs.FeedLemmas.{IsFed, way-begins, slice_behind}
+use Rattle.chunk_ae.proofs.StreamLemmas.{way-whole, way-ends}
 use Rattle.chunk_ae.proofs.Ae.feed.Goals as goal
 
 pub loop-chunk-init : goal.loop-chunk-init

@@ -1,5 +1,5 @@
 use Rattle.std.proofs.Common.{map, length}
-use Rattle.chunk_ae.proofs.StreamLemmas.{IsOnWay}
+use Rattle.vault_types.proofs.FeedLemmas.{IsOnWay}
 use Rattle.chunk_ae.proofs.Ae.feed.Given as goal
 
 abbrev pub invariant-loop-chunk : goal.invariant-loop-chunk

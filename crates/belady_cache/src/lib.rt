@@ -7,8 +7,6 @@ ghost use Rattle.std.specs.Prelude.{◌≡◌, ◌≤◌, [], map, IfOk, IsTrue}
 ghost use Rattle.vault_types.specs.Plans.{requests as requests_of, next_uses as next_uses_of, rule_plan, serves, loads as loads_of, IsLeast};
 
 mod present;
-#[cfg(test)]
-mod tests;
 
 use crate::present::{Held, serve};
 use std::alloc::Global;

@@ -71,20 +71,3 @@ pub fn choose(alloc: Global, segment: &[Option<Id>], t: u32) -> Result<Vec<Id>, 
     sort_by_use(&mut counted);
     first_ids(alloc, counted.as_slice(), t)
 }
-
-#[cfg(test)]
-mod tests {
-    use super::*;
-    use std::test::Fail;
-
-    #[test]
-    fn the_most_used_go_first_and_then_the_lower(rt: HostRuntime) -> Result<(), Fail> {
-        let tie = choose(rt.alloc(), &[Some(2), Some(1)], 1)?;
-        assert_eq!(rt; tie.as_slice(), [1].as_slice());
-        let often = choose(rt.alloc(), &[Some(2), None, Some(1), Some(2)], 1)?;
-        assert_eq!(rt; often.as_slice(), [2].as_slice());
-        let none = choose(rt.alloc(), &[None], 1)?;
-        assert!(rt; none.is_empty());
-        Ok(())
-    }
-}

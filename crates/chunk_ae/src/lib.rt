@@ -10,8 +10,6 @@ ghost use Rattle.chunk_ae.specs.Held.{held_bytes};
 
 mod scan;
 mod step;
-#[cfg(test)]
-mod tests;
 
 use crate::scan::{Scan, Scanned, scan_piece};
 use crate::step::Step;

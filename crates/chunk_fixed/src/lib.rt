@@ -7,8 +7,6 @@ ghost use Rattle.vault_types.specs.declared.Cutting.TheVariants as cutting;
 ghost use Rattle.vault_types.specs.Cuts.{cuts, settled, unsettled, only_bytes, HasCut};
 
 mod step;
-#[cfg(test)]
-mod tests;
 
 use crate::step::Step;
 use std::alloc::Global;

@@ -5,8 +5,6 @@ ghost use Rattle.std.specs.Prelude.{◌≡◌, ◌≤◌, length};
 ghost use Rattle.vault_types.specs.Names.{fp};
 
 mod running_sum;
-#[cfg(test)]
-mod tests;
 
 pub use running_sum::RunningSum;
 use sha1::Sha1;

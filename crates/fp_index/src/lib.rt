@@ -73,6 +73,3 @@ impl Index {
         take_rows(&mut self.containers, table.id, table.rows.as_slice());
     }
 }
-
-#[cfg(test)]
-mod tests;

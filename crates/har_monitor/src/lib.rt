@@ -7,8 +7,6 @@ ghost use Rattle.vault_types.specs.declared.Row.{Row as Reference};
 ghost use Rattle.vault_types.specs.Sparse.{sparse};
 ghost use Rattle.har_monitor.specs.Monitor.{HasSeen, NamesEach, payload_of};
 
-#[cfg(test)]
-mod tests;
 mod used;
 
 use crate::used::{add, first_ids, little_used, sort_by_use};

@@ -105,6 +105,3 @@ pub fn taken_ids_are_in_no_newer_list()
     ensures named { (s c : ℕ) (steps : List Step) → VersionsRise steps → has c (marked_ids (marks_after s steps)) ≡ stands_since steps c }
     ensures taken { (s floor c : ℕ) (steps : List Step) → VersionsRise steps → has c (freed_ids s floor (marks_after s steps)) ≡ (stands_since steps c && not (stands_above floor steps c)) }
 {}
-
-#[cfg(test)]
-mod tests;

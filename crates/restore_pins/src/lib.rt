@@ -108,6 +108,3 @@ impl Pins {
         }
     }
 }
-
-#[cfg(test)]
-mod tests;

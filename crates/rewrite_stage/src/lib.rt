@@ -2,8 +2,6 @@
 #![tactic(auto)]
 
 mod decider;
-#[cfg(test)]
-mod tests;
 
 pub use decider::Decider;
 use fingerprint_stage::Chunk;

@@ -26,6 +26,3 @@ pub use script::read_script;
 pub use show::show_text;
 pub use texts::{answer_text, fault_text};
 pub use vault_types::{Command, Line};
-
-#[cfg(test)]
-mod tests;

@@ -60,18 +60,3 @@ impl Segmenter {
         }
     }
 }
-
-#[cfg(test)]
-mod tests {
-    use super::*;
-
-    #[test]
-    fn a_segment_ends_before_what_does_not_fit(rt: HostRuntime) {
-        let mut segmenter = Segmenter::new(10);
-        assert_eq!(rt; segmenter.push(4), Cut::Same);
-        assert_eq!(rt; segmenter.push(6), Cut::Same);
-        assert_eq!(rt; segmenter.push(1), Cut::NewBefore);
-        assert_eq!(rt; segmenter.push(20), Cut::NewBefore);
-        assert_eq!(rt; segmenter.push(1), Cut::NewBefore);
-    }
-}

@@ -115,6 +115,3 @@ pub fn taken_ids_are_in_no_kept_version()
     ensures named { (c : ℕ) (steps : List Step) → FloorsRise steps → has c (marked_ids (marks_after steps)) ≡ stands_since steps c }
     ensures taken { (s floor c : ℕ) (steps : List Step) → FloorsRise (Taken s floor ∷ steps) → has c (freed_ids s floor (marks_after steps)) ≡ (stands_since steps c && not (stands_above (floor_after (Taken s floor ∷ steps)) steps c)) }
 {}
-
-#[cfg(test)]
-mod tests;

@@ -4,8 +4,10 @@ ghost use Rattle.std.specs.List.{AllByRecursion};
 ghost use Rattle.vault_types.specs.Lists.{distinct_by};
 ghost use Rattle.har_monitor.specs.Monitor.{HasSeen, NamesEach, ids_of};
 
-use super::*;
+use har_monitor::Monitor;
+use std::alloc::Global;
 use std::test::Fail;
+use vault_types::{Fp, Id, Memory, Row};
 
 const FIRST: Fp = Fp([1; 20]);
 
@@ -60,7 +62,7 @@ fn the_sparsest_are_kept_within_the_limit(rt: HostRuntime) -> Result<(), Fail> {
     ];
     let payloads = [(1, 1_000), (2, 1_000), (3, 9_150)];
     let list = list_of(rt.alloc(), &rows, &payloads, 50, 5)?;
-    assert_eq!(rt; list.as_slice(), [1].as_slice());
+    assert!(rt; list.as_slice() == [1].as_slice());
     Ok(())
 }
 
@@ -74,8 +76,7 @@ fn a_fingerprint_counts_once(rt: HostRuntime) -> Result<(), Fail> {
     let rows = [row, row];
     let payloads = [(1, 16)];
     let list = list_of(rt.alloc(), &rows, &payloads, 50, 100)?;
-    assert_eq!(rt; list.as_slice(), [1].as_slice());
     let none = list_of(rt.alloc(), &rows, &payloads, 25, 100)?;
-    assert!(rt; none.is_empty());
+    assert!(rt; list.as_slice() == [1].as_slice() && none.is_empty());
     Ok(())
 }

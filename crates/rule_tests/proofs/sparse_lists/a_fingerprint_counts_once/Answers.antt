@@ -1,6 +1,6 @@
 use Rattle.std.proofs.Common.{refl}
 use Rattle.std.specs.List.{IsDistinct}
-use Rattle.har_monitor.proofs.tests.a_fingerprint_counts_once.Goals as goal
+use Rattle.rule_tests.proofs.sparse_lists.a_fingerprint_counts_once.Goals as goal
 
 pub list_of-requires-clause-named : goal.list_of-requires-clause-named
 unfolding IsDistinct

@@ -1,7 +1,7 @@
 use Rattle.std.proofs.Common.{take, sym, subst}
 use Rattle.std.proofs.lemmas.List.{take_more}
 use Rattle.har_monitor.specs.Monitor.{HasSeen}
-use Rattle.har_monitor.proofs.tests.monitor_of.Goals as goal
+use Rattle.rule_tests.proofs.sparse_lists.monitor_of.Goals as goal
 
 pub loop-row-preserved : goal.loop-row-preserved
 loop-row-preserved c =

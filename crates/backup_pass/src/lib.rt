@@ -6,8 +6,6 @@
 mod cutter;
 mod pass;
 mod placer;
-#[cfg(test)]
-mod tests;
 
 pub use pass::{Pass, Passed};
 pub use placer::Placer;

@@ -3,7 +3,5 @@
 
 mod filler;
 mod open;
-#[cfg(test)]
-mod tests;
 
 pub use filler::{Filled, Filler};

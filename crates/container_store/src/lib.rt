@@ -202,6 +202,3 @@ pub fn tables_are_told_apart()
     ensures one { (id : ℕ) (t : Tables) (a b : List ℕ) → SpellsTable id a t → SpellsTable id b t → a ≡ b }
     ensures apart { (id : ℕ) (t u : Tables) (a b more : List ℕ) → SpellsTable id a t → SpellsTable id b u → a ++ more ≡ b → (t ≡ u) × (more ≡ []) }
 {}
-
-#[cfg(test)]
-mod tests;

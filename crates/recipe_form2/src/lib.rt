@@ -38,6 +38,3 @@ pub fn recipes_are_told_apart()
     ensures one { (s v : ℕ) (r : Recipes) (a b : List ℕ) → SpellsRecipe2 s v a r → SpellsRecipe2 s v b r → a ≡ b }
     ensures apart { (s v : ℕ) (r q : Recipes) (a b more : List ℕ) → SpellsRecipe2 s v a r → SpellsRecipe2 s v b q → a ++ more ≡ b → (r ≡ q) × (more ≡ []) }
 {}
-
-#[cfg(test)]
-mod tests;

@@ -67,6 +67,3 @@ fn waits_after(fault: &Fault, recipe: &Recipe, pending: Pending) -> Pending
         _ => pending,
     }
 }
-
-#[cfg(test)]
-mod tests;

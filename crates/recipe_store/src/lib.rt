@@ -216,6 +216,3 @@ pub fn floors_are_told_apart()
     ensures one { (s f : ℕ) (a b : List ℕ) → SpellsFloor s a f → SpellsFloor s b f → a ≡ b }
     ensures apart { (s f g : ℕ) (a b more : List ℕ) → SpellsFloor s a f → SpellsFloor s b g → a ++ more ≡ b → (f ≡ g) × (more ≡ []) }
 {}
-
-#[cfg(test)]
-mod tests;

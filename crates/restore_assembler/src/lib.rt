@@ -12,8 +12,6 @@ ghost use Rattle.restore_assembler.specs.Copying.{wanted, IsWanted, IsCovered, H
 mod ends;
 mod payload;
 mod progress;
-#[cfg(test)]
-mod tests;
 mod writing;
 
 use crate::ends::{end_at, ends_of};

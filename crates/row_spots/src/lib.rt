@@ -71,6 +71,3 @@ pub fn spots_of(
     }
     Ok(spots)
 }
-
-#[cfg(test)]
-mod tests;

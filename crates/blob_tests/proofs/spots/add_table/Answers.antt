@@ -1,6 +1,6 @@
 use Rattle.std.proofs.Common.{Ok, ap}
 use Rattle.row_spots.proofs.Callers.{ruled_more}
-use Rattle.row_spots.proofs.tests.add_table.Goals as goal
+use Rattle.blob_tests.proofs.spots.add_table.Goals as goal
 
 pub returns-in-Some : goal.returns-in-Some
 returns-in-Some c =

@@ -1,8 +1,12 @@
-use super::*;
-use std::test::*;
+// The tables of containers, as bytes from outside.
+use container_store::{decode_table, encode_table};
+use sha1::Sha1;
+use std::alloc::Global;
+use std::test::Fail;
+use vault_types::{Fp, Id};
 
 // The table of container 1 with the chunks `abcd` and `ab`.
-const TABLE: [u8; 104] = [
+pub const TWO: [u8; 104] = [
     0x44, 0x54, 0x42, 0x31, 0x00, 0x00, 0x00, 0x00, 0x00, 0x00, 0x00, 0x01, 0x00, 0x00, 0x00, 0x02,
     0x81, 0xfe, 0x8b, 0xfe, 0x87, 0x57, 0x6c, 0x3e, 0xcb, 0x22, 0x42, 0x6f, 0x8e, 0x57, 0x84, 0x73,
     0x82, 0x91, 0x7a, 0xcf, 0x00, 0x00, 0x00, 0x04, 0xda, 0x23, 0x61, 0x4e, 0x02, 0x46, 0x9a, 0x0d,
@@ -13,7 +17,7 @@ const TABLE: [u8; 104] = [
 ];
 
 // The same with one byte more.
-const LONGER: [u8; 105] = [
+pub const LONGER: [u8; 105] = [
     0x44, 0x54, 0x42, 0x31, 0x00, 0x00, 0x00, 0x00, 0x00, 0x00, 0x00, 0x01, 0x00, 0x00, 0x00, 0x02,
     0x81, 0xfe, 0x8b, 0xfe, 0x87, 0x57, 0x6c, 0x3e, 0xcb, 0x22, 0x42, 0x6f, 0x8e, 0x57, 0x84, 0x73,
     0x82, 0x91, 0x7a, 0xcf, 0x00, 0x00, 0x00, 0x04, 0xda, 0x23, 0x61, 0x4e, 0x02, 0x46, 0x9a, 0x0d,
@@ -23,24 +27,38 @@ const LONGER: [u8; 105] = [
     0x68, 0x83, 0xe6, 0xc5, 0x63, 0x5e, 0x82, 0x6b, 0x00,
 ];
 
+// The id, how many rows, and the payload's sum of the table that the bytes spell, and its blob.
+fn told(alloc: Global, bytes: &[u8]) -> Result<(Id, usize, Fp, Vec<u8>), Fail> {
+    match decode_table(alloc, bytes, 1)? {
+        Some(table) => {
+            let blob = encode_table(alloc, &table)?;
+            Ok((
+                table.id,
+                table.rows.as_slice().len(),
+                table.payload_sum,
+                blob,
+            ))
+        }
+        None => Err(Fail::from("the bytes are no table")),
+    }
+}
+
+fn spells(alloc: Global, bytes: &[u8], id: Id) -> Result<bool, Fail> {
+    Ok(decode_table(alloc, bytes, id)?.is_some())
+}
+
 #[test]
 fn a_table_is_read_and_written(rt: HostRuntime) -> Result<(), Fail> {
-    let Ok(Some(table)) = decode_table(rt.alloc(), &TABLE, 1) else {
-        return Err(Fail::from("the bytes are a table"));
-    };
-    assert_eq!(rt; table.id, 1);
-    assert_eq!(rt; table.rows.as_slice().len(), 2);
-    assert_eq!(rt; table.payload_sum, Fp(Sha1::digest(b"abcdab")));
-    let Ok(blob) = encode_table(rt.alloc(), &table) else {
-        return Err(Fail::from("there is memory"));
-    };
-    assert_eq!(rt; blob.as_slice(), TABLE.as_slice());
+    let (id, rows, sum, blob) = told(rt.alloc(), &TWO)?;
+    assert!(rt; (id, rows, sum) == (1, 2, Fp(Sha1::digest(b"abcdab"))));
+    assert!(rt; blob.as_slice() == TWO.as_slice());
     Ok(())
 }
 
 #[test]
-fn other_bytes_are_no_table(rt: HostRuntime) {
-    assert!(rt; matches!(decode_table(rt.alloc(), &TABLE, 2), Ok(None)));
-    assert!(rt; matches!(decode_table(rt.alloc(), &LONGER, 1), Ok(None)));
-    assert!(rt; matches!(decode_table(rt.alloc(), &TABLE[..103], 1), Ok(None)));
+fn other_bytes_are_no_table(rt: HostRuntime) -> Result<(), Fail> {
+    assert!(rt; !spells(rt.alloc(), &TWO, 2)?);
+    assert!(rt; !spells(rt.alloc(), &LONGER, 1)?);
+    assert!(rt; !spells(rt.alloc(), &TWO[..103], 1)?);
+    Ok(())
 }

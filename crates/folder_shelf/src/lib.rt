@@ -12,6 +12,3 @@ mod streams;
 pub use places::FolderPlaces;
 pub use shelf::FolderShelf;
 pub use streams::{ErrSink, InSource, OutSink, StreamSink, StreamSource};
-
-#[cfg(test)]
-mod tests;

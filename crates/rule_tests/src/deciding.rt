@@ -40,20 +40,18 @@ fn table(alloc: Global, id: Id, letters: &[u8]) -> Result<Table, Memory> {
     })
 }
 
-// An index of containers 1, 2 and so on, of these letters.
-fn index_of(alloc: Global, containers: &[&[u8]]) -> Result<Index, Memory> {
+// An index of containers of these letters.
+fn index_of(alloc: Global, containers: &[(Id, &[u8])]) -> Result<Index, Memory> {
     let mut index = Index::from_tables(alloc, &[])?;
-    let mut id = 0;
-    for letters in containers {
-        id += 1;
-        index.add_container(alloc, &table(alloc, id, letters)?)?;
+    for (id, letters) in containers {
+        index.add_container(alloc, &table(alloc, *id, letters)?)?;
     }
     Ok(index)
 }
 
 fn decider_of(
     alloc: Global,
-    containers: &[&[u8]],
+    containers: &[(Id, &[u8])],
     sparse: &[Id],
     rewrite: Rewrite,
     cap: u32,
@@ -105,7 +103,7 @@ fn ends_with(decider: Decider, letter: u8, id: Id) -> bool {
 #[test]
 fn a_chunk_of_a_sparse_container_is_written_once(rt: HostRuntime) -> Result<(), Fail> {
     let alloc = rt.alloc();
-    let mut decider = decider_of(alloc, &[b"a"], &[1], Rewrite::Har, 16)?;
+    let mut decider = decider_of(alloc, &[(1, b"a")], &[1], Rewrite::Har, 16)?;
     let hows = [How::Write, How::Own, How::Own];
     assert!(rt; decides(alloc, &mut decider, b"aaa", &hows)?);
     assert!(rt; decides(alloc, &mut decider, b"a", &[How::Own])?);
@@ -116,7 +114,7 @@ fn a_chunk_of_a_sparse_container_is_written_once(rt: HostRuntime) -> Result<(), 
 #[test]
 fn a_capped_segment_refers_to_its_most_used_container(rt: HostRuntime) -> Result<(), Fail> {
     let alloc = rt.alloc();
-    let mut decider = decider_of(alloc, &[b"a", b"b"], &[], Rewrite::Cap, 1)?;
+    let mut decider = decider_of(alloc, &[(1, b"a"), (2, b"b")], &[], Rewrite::Cap, 1)?;
     let hows = [How::Write, How::Old(2), How::Old(2)];
     assert!(rt; decides(alloc, &mut decider, b"abb", &hows)?);
     let handed = [How::Write, How::Old(7)];

@@ -10,8 +10,6 @@ ghost use Rattle.vault_types.specs.Stages.{IsLine};
 ghost use Rattle.stage_queue.specs.Line.{log};
 
 mod rule;
-#[cfg(test)]
-mod tests;
 
 use crate::rule::{InOrder, Line, LinePass, Roles, Sends, Takes};
 use std::alloc::Global;

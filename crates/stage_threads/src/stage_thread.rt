@@ -2,9 +2,6 @@
 ghost use Rattle.std.specs.Prelude.{◌≡◌, ◌↔◌, IsTrue, IsSome, IsSomeAnd, IfSome, IfNone, Some, None};
 ghost use Rattle.vault_types.specs.declared.Turn.TheVariants.{Done};
 
-#[cfg(test)]
-mod tests;
-
 use crate::Stage;
 use crate::back_off::BackOff;
 use core::thread::Stack;
@@ -124,8 +121,8 @@ impl<S: Stage> StageThread<S> {
         StageThread::start_on(rt, place, scope, stage, Stack::new())
     }
 
-    // The same, in a thread with such a stack: the host refuses one that is too large.
-    fn start_on<'s, E: 's, R: Wait + Clock + Copy + Drop + Send + 's>(
+    /// The same, in a thread with such a stack: the host refuses one that is too large.
+    pub fn start_on<'s, E: 's, R: Wait + Clock + Copy + Drop + Send + 's>(
         rt: R,
         place: Place<S>,
         scope: &'s Scope<'s, E>,

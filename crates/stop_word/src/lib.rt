@@ -7,8 +7,6 @@ ghost use Rattle.std.specs.List.{list_any};
 ghost use Rattle.stop_word.specs.Holders.{Family, fresh, IsWhole};
 
 mod rule;
-#[cfg(test)]
-mod tests;
 
 use crate::rule::{Board, Knows, Looks, Raises, Seats, View};
 use atomic_table::Seat;

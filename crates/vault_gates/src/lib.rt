@@ -12,11 +12,8 @@ mod shelf;
 mod sinks;
 mod sources;
 
-pub use gate::{Gate, LOOKS, gates};
+pub use gate::{Gate, LOOKS, gates, gates_that_look};
 pub use places::GatePlaces;
 pub use shelf::GateShelf;
 pub use sinks::GateSink;
 pub use sources::GateSource;
-
-#[cfg(test)]
-mod tests;

@@ -22,6 +22,3 @@ pub use mem_shelf::MemShelf;
 pub use sinks::{FaultSink, MemSink};
 pub use sources::{FaultSource, MemSource};
 pub use vault_traits::{Failed, Places, Refused, Shelf, Sink, Source};
-
-#[cfg(test)]
-mod tests;

@@ -15,6 +15,3 @@ mod sums;
 pub use generated::Generated;
 pub use places::FillPlaces;
 pub use sink::FillSink;
-
-#[cfg(test)]
-mod tests;

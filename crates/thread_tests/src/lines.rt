@@ -1,11 +1,14 @@
 //! Lines between two threads, and lines on one. Each test ends whatever the schedule: the sender always sends an end.
 ghost use Rattle.std.specs.Prelude.{◌≡◌, ◌≤◌};
 
-use super::*;
+use stage_queue::{Middle, Rx, Tx, close, line, rejoin};
+use std::alloc::Global;
 use std::snapshot::Snapshot;
+use std::sync::Wait;
 use std::test::Fail;
 use std::thread;
 use std::thread::{Promise, Threads};
+use vault_types::Memory;
 
 #[derive(Drop)]
 struct Parcel {
@@ -115,54 +118,73 @@ fn relay<R: Threads + Wait + Copy + Drop + Send + 'static>(
 
 #[test]
 fn a_million_parcels_through_one_place(rt: HostRuntime) -> Result<(), Fail> {
-    assert_eq!(rt; relay(rt, rt.alloc(), 1, 1_000_000)?, (1_000_000, true, 0));
+    assert!(rt; relay(rt, rt.alloc(), 1, 1_000_000)? == (1_000_000, true, 0));
     Ok(())
 }
 
 #[test]
 fn a_million_parcels_through_1024_places(rt: HostRuntime) -> Result<(), Fail> {
-    assert_eq!(rt;
-        relay(rt, rt.alloc(), 1_024, 1_000_000)?,
-        (1_000_000, true, 0)
-    );
+    assert!(rt; relay(rt, rt.alloc(), 1_024, 1_000_000)? == (1_000_000, true, 0));
     Ok(())
+}
+
+// A line of one place: what a take, an offer of 7, one of 8 and a take answer, and what is left.
+fn one_place<R: Wait>(
+    rt: &R,
+    alloc: Global,
+) -> Result<([Option<u32>; 2], [Result<(), u32>; 2], Vec<u32>), Memory> {
+    let (middle, mut tx, mut rx) = line::<u32>(alloc, 1)?;
+    let none = rx.take(rt);
+    let sent = tx.offer(rt, 7);
+    let back = tx.offer(rt, 8);
+    let first = rx.take(rt);
+    let left = rejoin(rt, alloc, middle, tx, rx)?;
+    Ok(([none, first], [sent, back], left))
 }
 
 #[test]
 fn a_full_line_gives_the_item_back(rt: HostRuntime) -> Result<(), Fail> {
-    let (middle, mut tx, mut rx) = line::<u32>(rt.alloc(), 1)?;
-    assert_eq!(rt; rx.take(&rt), None);
-    assert_eq!(rt; tx.offer(&rt, 7), Ok(()));
-    assert_eq!(rt; tx.offer(&rt, 8), Err(8));
-    assert_eq!(rt; rx.take(&rt), Some(7));
-    assert_eq!(rt;
-        rejoin(&rt, rt.alloc(), middle, tx, rx)?.as_slice(),
-        [].as_slice()
-    );
+    let (taken, sent, left) = one_place(&rt, rt.alloc())?;
+    assert!(rt; taken == [None, Some(7)]);
+    assert!(rt; sent == [Ok(()), Err(8)]);
+    assert!(rt; left.is_empty());
     Ok(())
+}
+
+// A line of three places: what the offers of 1, 2 and 3 answer, and a take, and what is left.
+fn three_places<R: Wait>(
+    rt: &R,
+    alloc: Global,
+) -> Result<([Result<(), u32>; 3], Option<u32>, Vec<u32>), Memory> {
+    let (middle, mut tx, mut rx) = line::<u32>(alloc, 3)?;
+    let one = tx.offer(rt, 1);
+    let two = tx.offer(rt, 2);
+    let three = tx.offer(rt, 3);
+    let first = rx.take(rt);
+    let left = rejoin(rt, alloc, middle, tx, rx)?;
+    Ok(([one, two, three], first, left))
 }
 
 #[test]
 fn what_is_left_comes_back_in_order(rt: HostRuntime) -> Result<(), Fail> {
-    let (middle, mut tx, mut rx) = line::<u32>(rt.alloc(), 3)?;
-    assert_eq!(rt; tx.offer(&rt, 1), Ok(()));
-    assert_eq!(rt; tx.offer(&rt, 2), Ok(()));
-    assert_eq!(rt; tx.offer(&rt, 3), Ok(()));
-    assert_eq!(rt; rx.take(&rt), Some(1));
-    assert_eq!(rt;
-        rejoin(&rt, rt.alloc(), middle, tx, rx)?.as_slice(),
-        [2, 3].as_slice()
-    );
+    let (sent, first, left) = three_places(&rt, rt.alloc())?;
+    assert!(rt; sent == [Ok(()), Ok(()), Ok(())]);
+    assert!(rt; first == Some(1) && left.as_slice() == [2, 3].as_slice());
     Ok(())
+}
+
+// Whether two parcels were sent and the first came whole, before the line was closed.
+fn closed<R: Wait>(rt: &R, alloc: Global) -> Result<(bool, bool, bool), Fail> {
+    let (middle, mut tx, mut rx) = line::<Parcel>(alloc, 2)?;
+    let one = tx.offer(rt, Parcel::new(alloc, 0)?).is_ok();
+    let two = tx.offer(rt, Parcel::new(alloc, 1)?).is_ok();
+    let first = rx.take(rt).ok_or("no parcel")?;
+    close(middle, tx, rx);
+    Ok((one, two, first.number == 0 && first.is_whole()))
 }
 
 #[test]
 fn a_line_is_closed_with_parcels_in_it(rt: HostRuntime) -> Result<(), Fail> {
-    let (middle, mut tx, mut rx) = line::<Parcel>(rt.alloc(), 2)?;
-    assert!(rt; tx.offer(&rt, Parcel::new(rt.alloc(), 0)?).is_ok());
-    assert!(rt; tx.offer(&rt, Parcel::new(rt.alloc(), 1)?).is_ok());
-    let first = rx.take(&rt).ok_or("no parcel")?;
-    assert!(rt; first.number == 0 && first.is_whole());
-    close(middle, tx, rx);
+    assert!(rt; closed(&rt, rt.alloc())? == (true, true, true));
     Ok(())
 }

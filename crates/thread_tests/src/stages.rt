@@ -4,12 +4,16 @@ ghost use Rattle.std.specs.Prelude.{◌≡◌, ◌≤◌, refl};
 ghost use Rattle.std.proofs.Common.{◌∙◌};
 ghost use Rattle.vault_types.specs.declared.Turn.TheVariants.{Idle};
 
-use super::*;
-use crate::together;
+use core::thread::Stack;
 use stage_queue::{Rx, Tx, line};
+use stage_threads::{BackOff, Place, Stage, StageThread, together};
 use std::alloc::Global;
+use std::sync::Wait;
 use std::test::Fail;
 use std::thread;
+use std::thread::{Scope, Threads};
+use std::time::Clock;
+use vault_types::{Memory, Turn};
 
 // Passes numbers on, up to the first `None`.
 #[derive(Drop)]
@@ -208,9 +212,9 @@ fn carried<R: Threads + Wait + Clock + Copy + Drop + Send>(
 #[test]
 fn three_stages_in_threads(rt: HostRuntime) -> Result<(), Fail> {
     for capacity in [1, 64] {
-        assert_eq!(rt;
-            carried(rt, rt.alloc(), capacity, 20_000, (false, false, false))?,
-            ((20_000, true), (0, true)),
+        assert!(rt;
+            carried(rt, rt.alloc(), capacity, 20_000, (false, false, false))?
+                == ((20_000, true), (0, true)),
             "through {capacity} places"
         );
     }
@@ -220,9 +224,9 @@ fn three_stages_in_threads(rt: HostRuntime) -> Result<(), Fail> {
 #[test]
 fn three_stages_without_threads(rt: HostRuntime) -> Result<(), Fail> {
     for capacity in [1, 64] {
-        assert_eq!(rt;
-            carried(rt, rt.alloc(), capacity, 20_000, (true, true, true))?,
-            ((20_000, true), (3, true)),
+        assert!(rt;
+            carried(rt, rt.alloc(), capacity, 20_000, (true, true, true))?
+                == ((20_000, true), (3, true)),
             "through {capacity} places"
         );
     }
@@ -239,9 +243,9 @@ fn three_stages_with_some_threads(rt: HostRuntime) -> Result<(), Fail> {
         (true, false, true, 2),
         (false, true, true, 2),
     ] {
-        assert_eq!(rt;
-            carried(rt, rt.alloc(), 2, 5_000, (first, second, third))?,
-            ((5_000, true), (kept, true)),
+        assert!(rt;
+            carried(rt, rt.alloc(), 2, 5_000, (first, second, third))?
+                == ((5_000, true), (kept, true)),
             "refused: {first} {second} {third}"
         );
     }
@@ -281,7 +285,6 @@ fn ended_alone<R: Threads + Wait + Clock + Copy + Drop + Send>(
 #[test]
 fn a_kept_stage_is_done_at_its_end(rt: HostRuntime) -> Result<(), Fail> {
     let (came, is_over) = ended_alone(rt, rt.alloc())?;
-    assert_eq!(rt; came.as_slice(), [Some(7), Some(8), None].as_slice());
-    assert!(rt; is_over);
+    assert!(rt; came.as_slice() == [Some(7), Some(8), None].as_slice() && is_over);
     Ok(())
 }

@@ -15,9 +15,6 @@ use std::alloc::Global;
 use vault_traits::{Places, Shelf, Sink, Source};
 use vault_types::Limits;
 
-#[cfg(test)]
-mod tests;
-
 /// Runs the command that the words are, over the store on the shelf, with its data from `input` and to `out`; a script
 /// names places for its sources and outputs. What ends the run before its first line is told on `report`: `Usage` where
 /// the words are no command, or one that is not built yet; `ReadFault`, `ScriptTooLong` and `BadLine` of a script; and

@@ -1,10 +1,10 @@
 // A store of many versions.
 ghost use Rattle.std.specs.Prelude.{IfOk};
-ghost use Rattle.keeper_tests.specs.Drafts.{IsIdle};
+ghost use Rattle.keeper_driver.specs.Drafts.{IsIdle};
 
 use crate::watch::{Stop, micros};
 use keeper_core::Keeper;
-use keeper_tests::jobs::{back_up, delete};
+use keeper_driver::jobs::{back_up, delete};
 use std::alloc::Global;
 use std::time::Instant;
 use vault_ports::MemShelf;

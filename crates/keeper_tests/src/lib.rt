@@ -1,36 +1,22 @@
-//! Tests of a keeper's calls over the devices in memory.
+//! Tests of a keeper's calls over devices in memory: openings, jobs, deletions, pins, backups and restores, a script over
+//! a shelf of which each call fails in turn, and the same over one that stops at each, and a crash.
 #![tactic(auto)]
 
-ghost use Rattle.std.specs.Prelude.{◌≡◌};
-ghost use Rattle.vault_types.specs.Names.{fp, IsFp};
-ghost use Rattle.blob_parts.specs.Recipes.{FitsRow};
-
-pub mod jobs;
-pub mod store;
-pub mod views;
-
-use sha1::Sha1;
-use vault_types::{Fp, Id, Row};
-
+#[cfg(test)]
+mod backups;
+#[cfg(test)]
+mod crashing;
+#[cfg(test)]
+mod events;
+#[cfg(test)]
+mod failing;
 #[cfg(test)]
 mod opening;
-
-/// The SHA-1 of some bytes.
-pub fn sum(bytes: &[u8]) -> Fp
-    ensures is { result ≡ fp bytes.now }
-    ensures rules { IsFp result }
-{
-    Fp(Sha1::digest(bytes))
-}
-
-/// A row that says of the chunk of these bytes that it stands in a container with a length.
-pub fn row(id: Id, chunk: &[u8], len: u32) -> Row
-    ensures is { result ≡ record { fp = fp chunk.now; id = id; len = len } }
-    ensures fits { FitsRow result }
-{
-    Row {
-        fp: sum(chunk),
-        id,
-        len,
-    }
-}
+#[cfg(test)]
+mod pins;
+#[cfg(test)]
+mod restores;
+#[cfg(test)]
+mod script;
+#[cfg(test)]
+mod seen;

@@ -6,8 +6,6 @@ mod ending;
 mod putting;
 mod reading;
 mod sparse;
-#[cfg(test)]
-mod tests;
 
 ghost use Rattle.std.specs.Prelude.{◌≡◌, ◌≤◌, None, [], IfOk, IfErr};
 ghost use Rattle.backup_pass.specs.Passing.{IsInRange, index_in};

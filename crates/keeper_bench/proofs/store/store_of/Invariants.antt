@@ -1,4 +1,4 @@
-use Rattle.keeper_tests.specs.Drafts.{IsIdle}
+use Rattle.keeper_driver.specs.Drafts.{IsIdle}
 use Rattle.keeper_bench.proofs.store.store_of.Given as goal
 
 abbrev pub invariant-loop-number : goal.invariant-loop-number

@@ -1,0 +1,3 @@
+pub mod Drafting
+pub mod Ending
+pub mod Holding

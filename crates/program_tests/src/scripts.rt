@@ -1,0 +1,404 @@
+// Rows of scripts.
+use crate::running::{
+    FIRST, PAYLOAD, QUIET, Row, STANDARD, TEXT, as_said, holds, lists, rows_are, run_with,
+};
+use std::alloc::Global;
+use std::test::Fail;
+use vault_ports::{FaultPlaces, FaultShelf, MemPlaces, MemShelf, MemSource};
+use vault_traits::{Places, Shelf};
+use vault_types::{Fault, Kind, Name};
+
+type File = (&'static str, &'static [u8]);
+
+// Scripts that are run over these files and an empty shelf, each row for itself.
+struct Group {
+    files: &'static [File],
+    rows: &'static [Row],
+}
+
+const BATCH: Row = Row {
+    words: "batch",
+    ..QUIET
+};
+
+const WHAT_IS_SPARSE_IS_WRITTEN_AGAIN: Group = Group {
+    files: &[
+        ("a", b"aaaabbbbccccdddd"),
+        ("b", b"aaaa"),
+        ("c", b"aaaaaaaaaaaa"),
+    ],
+    rows: &[
+        Row {
+            input: b"backup a chunk=fixed size=4 rewrite=none container=16\n\
+                backup b chunk=fixed size=4 rewrite=none limit=100\n\
+                backup c chunk=fixed size=4 rewrite=har\n",
+            out: b"backup 1: 4 chunks, 16 bytes, 1 new containers, 16 bytes written, 0 sparse\n\
+                backup 2: 1 chunks, 4 bytes, 0 new containers, 0 bytes written, 1 sparse\n\
+                backup 3: 3 chunks, 12 bytes, 1 new containers, 4 bytes written, 0 sparse\n",
+            ..BATCH
+        },
+        Row {
+            input: b"backup a chunk=fixed size=4 rewrite=none container=16\n\
+                backup b chunk=fixed size=4 rewrite=none\n\
+                backup c chunk=fixed size=4 rewrite=har\n",
+            out: b"backup 1: 4 chunks, 16 bytes, 1 new containers, 16 bytes written, 0 sparse\n\
+                backup 2: 1 chunks, 4 bytes, 0 new containers, 0 bytes written, 0 sparse\n\
+                backup 3: 3 chunks, 12 bytes, 0 new containers, 0 bytes written, 0 sparse\n",
+            ..BATCH
+        },
+        // what is sparse in one set's version is not rewritten in another set
+        Row {
+            input: b"backup a chunk=fixed size=4 rewrite=none container=16\n\
+                backup b set=1 chunk=fixed size=4 rewrite=none limit=100\n\
+                backup c chunk=fixed size=4 rewrite=har\n",
+            out: b"backup 1: 4 chunks, 16 bytes, 1 new containers, 16 bytes written, 0 sparse\n\
+                backup 1/1: 1 chunks, 4 bytes, 0 new containers, 0 bytes written, 1 sparse\n\
+                backup 2: 3 chunks, 12 bytes, 0 new containers, 0 bytes written, 0 sparse\n",
+            ..BATCH
+        },
+        Row {
+            input: b"backup a chunk=fixed size=4 rewrite=none container=16\n\
+                backup b chunk=fixed size=4 rewrite=none limit=100\n\
+                backup c chunk=fixed size=4 rewrite=both cap=1\n",
+            out: b"backup 1: 4 chunks, 16 bytes, 1 new containers, 16 bytes written, 0 sparse\n\
+                backup 2: 1 chunks, 4 bytes, 0 new containers, 0 bytes written, 1 sparse\n\
+                backup 3: 3 chunks, 12 bytes, 1 new containers, 4 bytes written, 0 sparse\n",
+            ..BATCH
+        },
+    ],
+};
+
+const A_DELETION_GIVES_BACK_WHAT_IT_FREES: Group = Group {
+    files: &[
+        ("a", b"aaaabbbbccccdddd"),
+        ("b", b"aaaacccc"),
+        ("c", b"dddd"),
+        ("d", b"cccc"),
+    ],
+    rows: &[
+        Row {
+            input: b"backup b chunk=fixed size=4 rewrite=none\n\
+                backup c chunk=fixed size=4 rewrite=none\n\
+                delete 1\n\
+                delete 1\n",
+            out: b"backup 1: 2 chunks, 8 bytes, 1 new containers, 8 bytes written, 0 sparse\n\
+                backup 2: 1 chunks, 4 bytes, 1 new containers, 4 bytes written, 0 sparse\n\
+                delete 1: floor 2, 1 containers reclaimed\n\
+                delete 1: floor 2, 0 containers reclaimed\n",
+            ..BATCH
+        },
+        Row {
+            input: b"backup a chunk=fixed size=4 rewrite=none container=8\n\
+                backup b chunk=fixed size=4 rewrite=cap cap=1\n\
+                backup c chunk=fixed size=4 rewrite=none\n\
+                delete 2\n\
+                backup d chunk=fixed size=4 rewrite=none\n",
+            out: b"backup 1: 4 chunks, 16 bytes, 2 new containers, 16 bytes written, 0 sparse\n\
+                backup 2: 2 chunks, 8 bytes, 1 new containers, 4 bytes written, 0 sparse\n\
+                backup 3: 1 chunks, 4 bytes, 0 new containers, 0 bytes written, 0 sparse\n\
+                delete 2: floor 3, 2 containers reclaimed\n\
+                backup 4: 1 chunks, 4 bytes, 0 new containers, 0 bytes written, 0 sparse\n",
+            ..BATCH
+        },
+        Row {
+            input: b"backup a chunk=fixed size=4 rewrite=none container=8\n\
+                backup b chunk=fixed size=4 rewrite=cap cap=2\n",
+            out: b"backup 1: 4 chunks, 16 bytes, 2 new containers, 16 bytes written, 0 sparse\n\
+                backup 2: 2 chunks, 8 bytes, 0 new containers, 0 bytes written, 0 sparse\n",
+            ..BATCH
+        },
+    ],
+};
+
+const SETS_SHARE_THEIR_CONTAINERS: Group = Group {
+    files: &[("a", b"aaaa"), ("b", b"bbbb")],
+    rows: &[
+        Row {
+            input: b"backup a chunk=fixed size=4\n\
+                backup a set=3 chunk=fixed size=4\n\
+                backup b chunk=fixed size=4\n\
+                delete 1\n\
+                backup b set=3 chunk=fixed size=4\n\
+                delete 1 set=3\n",
+            out: b"backup 1: 1 chunks, 4 bytes, 1 new containers, 4 bytes written, 0 sparse\n\
+                backup 3/1: 1 chunks, 4 bytes, 0 new containers, 0 bytes written, 0 sparse\n\
+                backup 2: 1 chunks, 4 bytes, 1 new containers, 4 bytes written, 0 sparse\n\
+                delete 1: floor 2, 0 containers reclaimed\n\
+                backup 3/2: 1 chunks, 4 bytes, 0 new containers, 0 bytes written, 0 sparse\n\
+                delete 3/1: floor 2, 1 containers reclaimed\n",
+            ..BATCH
+        },
+        BATCH,
+    ],
+};
+
+// Places with these files, whose writers have room for all that is written.
+fn files_of(alloc: Global, files: &[File]) -> Result<Vec<(String, Vec<u8>)>, Fail> {
+    let mut all = Vec::new(alloc);
+    for (name, bytes) in files {
+        all.push((String::from_str(alloc, name)?, bytes.to_vec(alloc)?))?;
+    }
+    Ok(all)
+}
+
+/// Places with these files, whose writers have room for all that is written.
+pub fn places_of(alloc: Global, files: &[File]) -> Result<MemPlaces, Fail> {
+    Ok(MemPlaces::with(alloc, files_of(alloc, files)?, 1_048_576)?)
+}
+
+// Runs a row over a shelf and places, and gives the shelf that it leaves.
+fn script_is<S: Shelf + Drop, P: Places>(
+    alloc: Global,
+    row: &Row,
+    shelf: S,
+    places: &mut P,
+) -> Result<S, Fail> {
+    let source = MemSource::new(row.input.to_vec(alloc)?, 3);
+    let seen = run_with(
+        alloc, row.words, &STANDARD, shelf, places, source, 1_048_576,
+    )?;
+    as_said(alloc, row, &seen)?;
+    Ok(seen.shelf)
+}
+
+fn scripts_are(alloc: Global, groups: &[Group]) -> Result<(), Fail> {
+    for group in groups {
+        for row in group.rows {
+            let mut places = places_of(alloc, group.files)?;
+            let _ = script_is(alloc, row, MemShelf::new(alloc), &mut places)?;
+        }
+    }
+    Ok(())
+}
+
+#[test]
+fn scripts_do_as_their_rows_say(rt: HostRuntime) -> Result<(), Fail> {
+    scripts_are(
+        rt.alloc(),
+        &[
+            WHAT_IS_SPARSE_IS_WRITTEN_AGAIN,
+            A_DELETION_GIVES_BACK_WHAT_IT_FREES,
+            SETS_SHARE_THEIR_CONTAINERS,
+        ],
+    )
+}
+
+const LINE_BY_LINE: Row = Row {
+    input: b"backup one chunk=fixed size=4\n\
+        backup two\n\
+        restore 1 back\n\
+        delete 1\n",
+    status: 11,
+    out: b"backup 1: 3 chunks, 10 bytes, 1 new containers, 6 bytes written, 0 sparse\n\
+        error 11: place failed\n\
+        restore 1: 10 bytes, 1 loads\n\
+        error 10: latest version\n",
+    ..BATCH
+};
+
+// What the script has left under `back`.
+fn runs_line_by_line(alloc: Global) -> Result<bool, Fail> {
+    let mut places = places_of(alloc, &[("one", TEXT)])?;
+    let _ = script_is(alloc, &LINE_BY_LINE, MemShelf::new(alloc), &mut places)?;
+    Ok(places.bytes("back") == Some(TEXT))
+}
+
+#[test]
+fn a_script_runs_line_by_line(rt: HostRuntime) -> Result<(), Fail> {
+    assert!(rt; runs_line_by_line(rt.alloc())?);
+    Ok(())
+}
+
+const BAD: Row = Row {
+    status: 12,
+    fault: Some(Fault::BadLine(2)),
+    report: b"error 12: bad script, line 2\n",
+    ..BATCH
+};
+
+const BAD_SCRIPTS: &[Row] = &[
+    Row {
+        input: b"restore 1 x\nrestore 1 x\n",
+        ..BAD
+    },
+    Row {
+        input: b"restore 1 x\nbackup x\n",
+        ..BAD
+    },
+    Row {
+        input: b"backup x\nback up x\n",
+        ..BAD
+    },
+];
+
+// Runs the rows over a shelf whose first call fails: it is not called, and has no names then.
+fn run_no_line(alloc: Global, rows: &[Row]) -> Result<bool, Fail> {
+    for row in rows {
+        let shelf = FaultShelf::new(MemShelf::new(alloc), [1].to_vec(alloc)?, false);
+        let mut places = places_of(alloc, &[("x", b"x")])?;
+        let shelf = script_is(alloc, row, shelf, &mut places)?;
+        if shelf.faults() > 0 || !lists(alloc, &shelf.into_inner(), &[])? {
+            return Ok(false);
+        }
+    }
+    Ok(true)
+}
+
+#[test]
+fn bad_scripts_run_no_line(rt: HostRuntime) -> Result<(), Fail> {
+    assert!(rt; run_no_line(rt.alloc(), BAD_SCRIPTS)?);
+    Ok(())
+}
+
+const ONE_SOURCE_FAILS: Row = Row {
+    input: b"backup a chunk=fixed size=4 rewrite=none\n\
+        backup b chunk=fixed size=4 rewrite=none\n",
+    status: 4,
+    out: b"error 4: source failed\n\
+        backup 1: 1 chunks, 4 bytes, 1 new containers, 4 bytes written, 0 sparse\n",
+    ..BATCH
+};
+
+// The second read of the first source fails, behind all its bytes.
+fn one_source_fails(alloc: Global) -> Result<bool, Fail> {
+    let files = files_of(alloc, &[("a", b"aaaa"), ("b", b"aaaa")])?;
+    let reads = [2].to_vec(alloc)?;
+    let mut places = FaultPlaces::with(alloc, files, 100, 4, reads, Vec::new(alloc))?;
+    let shelf = script_is(alloc, &ONE_SOURCE_FAILS, MemShelf::new(alloc), &mut places)?;
+    Ok(holds(&shelf, PAYLOAD, b"aaaa"))
+}
+
+#[test]
+fn a_source_that_fails_makes_no_version(rt: HostRuntime) -> Result<(), Fail> {
+    assert!(rt; one_source_fails(rt.alloc())?);
+    Ok(())
+}
+
+const ONE_SINK_FAILS: Row = Row {
+    input: b"restore 1 x\n\
+        backup nosuch\n\
+        restore 1 y\n",
+    status: 5,
+    out: b"error 5: sink failed\n\
+        error 11: place failed\n\
+        restore 1: 10 bytes, 1 loads\n",
+    ..BATCH
+};
+
+// Whether the first sink has nothing, and the second the version.
+fn one_sink_fails(alloc: Global) -> Result<(bool, bool), Fail> {
+    let shelf = rows_are(alloc, &STANDARD, &[FIRST])?;
+    let writes = [1].to_vec(alloc)?;
+    let mut places = FaultPlaces::with(alloc, Vec::new(alloc), 100, 4, Vec::new(alloc), writes)?;
+    let _ = script_is(alloc, &ONE_SINK_FAILS, shelf, &mut places)?;
+    Ok((
+        places.bytes("x") == Some(b"".as_slice()),
+        places.bytes("y") == Some(TEXT),
+    ))
+}
+
+#[test]
+fn a_sink_that_fails_leaves_a_front(rt: HostRuntime) -> Result<(), Fail> {
+    assert!(rt; one_sink_fails(rt.alloc())? == (true, true));
+    Ok(())
+}
+
+const TWO_AND_TWO: Row = Row {
+    input: b"backup a chunk=fixed size=4 rewrite=none\n\
+        backup b chunk=fixed size=4 rewrite=none\n\
+        delete 1\n\
+        delete 1\n",
+    out: b"backup 1: 1 chunks, 4 bytes, 1 new containers, 4 bytes written, 0 sparse\n\
+        backup 2: 1 chunks, 4 bytes, 1 new containers, 4 bytes written, 0 sparse\n\
+        delete 1: floor 2, 1 containers reclaimed\n\
+        delete 1: floor 2, 0 containers reclaimed\n",
+    ..BATCH
+};
+
+const TWO_FILES: &[File] = &[("a", b"aaaa"), ("b", b"bbbb")];
+
+const SECOND_PAYLOAD: Name = Name {
+    kind: Kind::Payload,
+    number: 2,
+};
+
+// Whether the first container's payload is gone, and the second's is there.
+fn container_goes_along(alloc: Global) -> Result<(bool, bool), Fail> {
+    let mut places = places_of(alloc, TWO_FILES)?;
+    let shelf = script_is(alloc, &TWO_AND_TWO, MemShelf::new(alloc), &mut places)?;
+    Ok((
+        shelf.blob(PAYLOAD).is_none(),
+        holds(&shelf, SECOND_PAYLOAD, b"bbbb"),
+    ))
+}
+
+#[test]
+fn a_deleted_version_takes_its_container_along(rt: HostRuntime) -> Result<(), Fail> {
+    assert!(rt; container_goes_along(rt.alloc())? == (true, true));
+    Ok(())
+}
+
+const ONE_STORED: &[u8] =
+    b"backup 1: 1 chunks, 4 bytes, 1 new containers, 4 bytes written, 0 sparse\n";
+
+fn lines_of(text: &[u8]) -> usize {
+    let mut lines = 0usize;
+    for byte in text {
+        if *byte == b'\n' {
+            lines = lines.saturating_add(1);
+        }
+    }
+    lines
+}
+
+// The status, how many lines were printed, whether the first is that of the first version, how many names are left and
+// whether the payload of the second version is there.
+type Left = (u8, usize, bool, usize, bool);
+
+// The script of two backups and two deletions over a shelf of which one call fails.
+fn left_by(alloc: Global, call: u64, keep: bool) -> Result<Left, Fail> {
+    let shelf = FaultShelf::new(MemShelf::new(alloc), [call].to_vec(alloc)?, keep);
+    let mut places = places_of(alloc, TWO_FILES)?;
+    let source = MemSource::new(TWO_AND_TWO.input.to_vec(alloc)?, 3);
+    let seen = run_with(
+        alloc,
+        TWO_AND_TWO.words,
+        &STANDARD,
+        shelf,
+        &mut places,
+        source,
+        1_048_576,
+    )?;
+    let out = seen.out.as_slice();
+    let shelf = seen.shelf.into_inner();
+    Ok((
+        seen.status,
+        lines_of(out),
+        out.starts_with(ONE_STORED),
+        shelf.names(alloc)?.as_slice().len(),
+        holds(&shelf, SECOND_PAYLOAD, b"bbbb"),
+    ))
+}
+
+// Says at which call the script did not end as it should.
+fn each_call_fails_once(alloc: Global) -> Result<(), Fail> {
+    for call in 1..20u64 {
+        for keep in [false, true] {
+            let (status, lines, is_first, names, is_there) = left_by(alloc, call, keep)?;
+            let end = (status, lines, is_first);
+            let want_status = if call < 17 { 6 } else { 0 };
+            let want_lines = if call == 1 { 0 } else { 4 };
+            let is_left = call < 15 || (names == 4 && is_there);
+            if end != (want_status, want_lines, call >= 10) || !is_left {
+                let text = format!(in alloc; "at {call} {keep}: {end:?} {names} {is_there}")?;
+                return Err(Fail::new(text));
+            }
+        }
+    }
+    Ok(())
+}
+
+#[test]
+fn each_call_of_the_shelf_fails_once(rt: HostRuntime) -> Result<(), Fail> {
+    each_call_fails_once(rt.alloc())
+}

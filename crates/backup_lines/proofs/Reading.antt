@@ -10,8 +10,8 @@ use Rattle.vault_types.specs.Lists.{parts, rest}
 use Rattle.vault_types.specs.Cuts.{cuts, settled, settled_len, unsettled, only_bytes}
 use Rattle.vault_types.proofs.PartsLemmas.{parts-append}
 use Rattle.vault_traits.specs.Told.{SourceTold, Gives}
-use Rattle.backup_pass.specs.Passing.{IsCuttable}
-use Rattle.backup_pass.proofs.Sizes.{stable}
+use Rattle.stream_cutter.specs.Cutters.{IsCuttable}
+use Rattle.stream_cutter.proofs.Sizes.{stable}
 use Rattle.serial_backup.specs.Backup.{IsAtEnd, IsBackupFault}
 
 -- the settled chunks of a front are no more than the chunks of the whole

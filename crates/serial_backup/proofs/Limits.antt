@@ -7,7 +7,7 @@ use Rattle.vault_types.proofs.BackupLemmas.{concat-cuts}
 use Rattle.vault_traits.specs.Told.{SourceTold}
 use Rattle.keeper_catalog.specs.View.{View}
 use Rattle.backup_pass.specs.declared.pass.Pass.{Pass}
-use Rattle.backup_pass.specs.Passing.{IsCuttable}
+use Rattle.stream_cutter.specs.Cutters.{IsCuttable}
 use Rattle.serial_backup.specs.Going.{Began, IsGoing}
 use Rattle.serial_backup.proofs.Chunks.{AreChunks, chunk_sizes, cuts_are_chunks}
 

@@ -23,7 +23,8 @@ use Rattle.fp_index.specs.Index.{found_in, IsIndexOf}
 use Rattle.container_fill.specs.Filling.{IsFilledBy}
 use Rattle.backup_pass.specs.declared.pass.Pass.{Pass}
 use Rattle.backup_pass.specs.declared.pass.Passed.{Passed}
-use Rattle.backup_pass.specs.Passing.{HasPassed, IsCuttable, IsPassFault, index_in}
+use Rattle.backup_pass.specs.Passing.{HasPassed, IsPassFault, index_in}
+use Rattle.stream_cutter.specs.Cutters.{IsCuttable}
 use Rattle.keeper_catalog.specs.View.{View, Keeps, HasCore}
 use Rattle.keeper_jobs.specs.Jobs.{version_by}
 use Rattle.serial_backup.specs.declared.ending.Ended.{Ended}

@@ -3,5 +3,7 @@
 
 mod filler;
 mod open;
+mod unsealed;
 
 pub use filler::{Filled, Filler};
+pub use unsealed::Unsealed;

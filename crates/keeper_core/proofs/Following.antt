@@ -1,5 +1,5 @@
 -- That a pin stays over each call of a keeper, in the words of the calls' clauses: for what goes on beside a pinned restore.
-use Rattle.std.proofs.Common.{◌≡◌, ◌⊎◌, ⊎_elim, ℕ, List, [], ◌∷◌, ◌++◌, Option, Some, None, Result, Ok, Err, refl}
+use Rattle.std.proofs.Common.{◌≡◌, ◌⊎◌, ⊎_elim, ℕ, [], ◌∷◌, ◌++◌, None, Result, Ok, Err, refl}
 use Rattle.std.specs.Prelude.{IfOk, IfErr, OnOk, OnErr}
 use Rattle.vault_types.specs.declared.Answer.{Answer}
 use Rattle.vault_types.specs.declared.Fault.{Fault}

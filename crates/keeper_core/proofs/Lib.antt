@@ -6,3 +6,4 @@ pub mod Pinnings
 pub mod Naming
 pub mod Replacings
 pub mod Refusing
+pub mod Following

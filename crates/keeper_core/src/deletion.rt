@@ -1,5 +1,5 @@
 //! Deletions and releases.
-ghost use Rattle.std.specs.Prelude.{◌≡◌, ◌≤◌, ◌<◌, ◌+◌, ◌-◌, ◌^◌, ◌⊎◌, None, IfOk, IfErr, OnOk, OnErr, Err, IsSome, IsTrue, length, Contains};
+ghost use Rattle.std.specs.Prelude.{◌≡◌, ◌≤◌, ◌<◌, ◌+◌, ◌-◌, ◌^◌, ◌⊎◌, ◌++◌, None, IfOk, IfErr, OnOk, OnErr, Err, IsSome, IsTrue, List, length, Contains};
 ghost use Rattle.vault_types.specs.declared.Fault.TheVariants as fault;
 ghost use Rattle.vault_types.specs.declared.Name.{Name as Named};
 ghost use Rattle.vault_types.specs.Lists.{has};
@@ -102,10 +102,11 @@ impl<S: Shelf> Keeper<S> {
         ensures any_moment { (K : Core) → Keeps self.old K → LeavesNowIfTold self.old.told.history (IsNear K.state K.other)
             → LeavesOnlyIfTold self.old.told.history self.new.told.history (IsNear K.state K.other) }
 
-        // Each stray was one before or is a name that the pin alone held, and at most one is left for each removal that
-        // failed.
+        // Each stray was one before or is a name that the pin alone held; none goes, and at most one comes for each removal
+        // that failed.
         ensures within { (K : Core) → Keeps self.old K → (n : Named) → Contains self.new.memo.strays n → Contains self.old.memo.strays n ⊎ IsReleased K no n }
         ensures few { self.new.told.faults < 2 ^ 64 - 1 → length self.new.memo.strays + self.old.told.faults ≤ length self.old.memo.strays + self.new.told.faults }
+        ensures added { (added : List Named) × (self.new.memo.strays ≡ self.old.memo.strays ++ added) }
         ensures tells { IsSome self.old.told.blobs → IsSome self.new.told.blobs }
         ensures gets { self.new.told.gets ≡ self.old.told.gets }
         ensures later { self.old.told.faults ≤ self.new.told.faults }

@@ -32,6 +32,7 @@ impl<S: Shelf> Keeper<S> {
             → LeavesOnlyIfTold self.old.told.history self.new.told.history (IsNear K.state K.other) }
         ensures acknowledged { OnOk result (self.old.pending ≢ Pending.Not → (K : Core) → Keeps self.old K → LeavesNowIfTold self.new.told.history (IsNear K.state None)) }
         ensures same { (self.new.memo ≡ self.old.memo) × (self.new.index ≡ self.old.index) × (self.new.pins ≡ self.old.pins) × (self.new.job ≡ self.old.job) }
+        ensures tells { IsSome self.old.told.blobs → IsSome self.new.told.blobs }
         ensures gets { self.new.told.gets ≡ self.old.told.gets }
         ensures causes { HasStoreFault self.old.told.faults self.new.told.faults result }
     {

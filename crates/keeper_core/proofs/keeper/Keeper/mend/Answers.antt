@@ -1,4 +1,5 @@
 use Rattle.std.proofs.Common.{sym, subst, List}
+use Rattle.std.specs.Prelude.{IsSome}
 use Rattle.vault_types.specs.Events.{after_mend}
 use Rattle.keeper_catalog.specs.View.{View, Keeps}
 use Rattle.keeper_catalog.specs.declared.SetInfo.{SetInfo}
@@ -17,3 +18,9 @@ returns-clause-ok g c K keeps =
     let k = subst (λ (v : View). Keeps v K) (sym c.self.view_is) keeps in
     let sees = subst (λ (l : List SetInfo). Sees l c.self.inside.pending K) (sym c.deref.ensures.value) (sees_of _ K k) in
     mended _ K k _ _ c.in_ok-mend_for.ensures.over (c.in_ok-mend_for.ensures.mended K sees k.held)
+
+pub returns-in_err-mend_for-clause-tells : goal.returns-in_err-mend_for-clause-tells
+returns-in_err-mend_for-clause-tells g c told = c.mend_for.ensures.tells (subst (λ (v : View). IsSome v.told.blobs) (sym c.self.view_is) told)
+
+pub returns-clause-tells : goal.returns-clause-tells
+returns-clause-tells g c told = c.mend_for.ensures.tells (subst (λ (v : View). IsSome v.told.blobs) (sym c.self.view_is) told)

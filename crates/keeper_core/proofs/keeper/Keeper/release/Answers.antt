@@ -1,4 +1,5 @@
-use Rattle.std.proofs.Common.{◌≡◌, sym, subst}
+use Rattle.std.proofs.Common.{◌≡◌, ◌++◌, List, sym, subst}
+use Rattle.vault_types.specs.declared.Name.{Name}
 use Rattle.vault_types.specs.Shelf.{blob_at}
 use Rattle.vault_types.specs.Events.{after_release}
 use Rattle.keeper_catalog.specs.View.{View, Keeps}
@@ -21,3 +22,7 @@ pub returns-clause-others : goal.returns-clause-others
 returns-clause-others g c K keeps n none =
     let k = subst (λ (v : View). Keeps v K) (sym c.self.view_is) keeps in
     subst (λ (v : View). blob_at (g.S.Shelf.told c.release_pin.new.shelf).blobs n ≡ blob_at v.told.blobs n) c.self.view_is (c.release_pin.ensures.others K (releasing_of _ K k) n none)
+
+pub returns-clause-added : goal.returns-clause-added
+returns-clause-added g c =
+    subst (λ (v : View). (added : List Name) × (c.release_pin.new.catalog.strays.items ≡ v.memo.strays ++ added)) c.self.view_is c.release_pin.ensures.added

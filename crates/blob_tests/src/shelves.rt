@@ -50,9 +50,8 @@ pub fn one_chunk(alloc: Global) -> Result<Sealed, Fail> {
             how: How::Write,
         },
     )?;
-    let filled = filler.finish()?;
-    match filled.last {
-        Some(sealed) => Ok(sealed),
+    match filler.finish().last {
+        Some(unsealed) => Ok(unsealed.seal()),
         None => Err(Fail::from("no container")),
     }
 }

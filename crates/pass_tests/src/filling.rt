@@ -1,6 +1,5 @@
 // Containers as they are filled.
-use container_fill::Filler;
-use container_store::Sealed;
+use container_fill::{Filler, Unsealed};
 use fingerprint_stage::name;
 use rewrite_stage::Decided;
 use std::alloc::Global;
@@ -10,9 +9,12 @@ use vault_types::{How, Id};
 // A container by its id and the length of its payload.
 type Brief = (Id, usize);
 
-fn brief(sealed: Option<Sealed>) -> Option<Brief> {
-    match sealed {
-        Some(sealed) => Some((sealed.table().id, sealed.payload().len())),
+fn brief(unsealed: Option<Unsealed>) -> Option<Brief> {
+    match unsealed {
+        Some(unsealed) => {
+            let sealed = unsealed.seal();
+            Some((sealed.table().id, sealed.payload().len()))
+        }
         None => None,
     }
 }
@@ -66,7 +68,7 @@ struct End {
 }
 
 fn finished(alloc: Global, filler: Filler) -> Result<End, Fail> {
-    let filled = filler.finish()?;
+    let filled = filler.finish();
     let mut rows = Vec::new(alloc);
     for row in filled.rows.as_slice() {
         rows.push((row.id, row.len))?;

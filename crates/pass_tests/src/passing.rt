@@ -125,24 +125,25 @@ fn add_to(alloc: Global, index: &mut Index, sealed: &Sealed) -> Result<(), Memor
     index.add_container(alloc, sealed.table())
 }
 
-// What a filler comes to, and the index with what it wrote.
+// The backup that a filler comes to; the index has what it wrote.
 fn filled(
     alloc: Global,
     index: &mut Index,
     filler: Filler,
     decided: Vec<Decided>,
-) -> Result<Filled, Fail> {
+) -> Result<Backup, Fail> {
     let mut filler = filler;
     for one in decided {
-        if let Some(sealed) = filler.push(alloc, one)? {
-            add_to(alloc, index, &sealed)?;
+        if let Some(unsealed) = filler.push(alloc, one)? {
+            add_to(alloc, index, &unsealed.seal())?;
         }
     }
-    let filled = filler.finish()?;
-    if let Some(sealed) = &filled.last {
-        add_to(alloc, index, sealed)?;
+    let filled = filler.finish();
+    let backup = backup_of(alloc, &filled)?;
+    if let Some(unsealed) = filled.last {
+        add_to(alloc, index, &unsealed.seal())?;
     }
-    Ok(filled)
+    Ok(backup)
 }
 
 // A backup by its rows' ids, how many containers it wrote, and the free id after it.
@@ -168,8 +169,8 @@ fn back_up(
     }
     let filler = Filler::new(alloc, next, config.container);
     let (mut index, decided) = decided(alloc, index, config, letters)?;
-    let filled = filled(alloc, &mut index, filler, decided)?;
-    Ok((index, backup_of(alloc, &filled)?))
+    let backup = filled(alloc, &mut index, filler, decided)?;
+    Ok((index, backup))
 }
 
 fn settings(rewrite: Rewrite, cap: u32, container: u32) -> JobConfig {

@@ -2,7 +2,7 @@
 ghost use Rattle.backup_pass.specs.Passing.{IsCuttable};
 
 use backup_pass::Pass;
-use container_fill::{Filled, Filler};
+use container_fill::{Filled, Filler, Unsealed};
 use container_store::Sealed;
 use fingerprint_stage::{Chunk, name};
 use fp_index::Index;
@@ -42,9 +42,9 @@ fn feed_all(
     Ok(())
 }
 
-fn payload_of(alloc: Global, filled: &Filled) -> Result<Vec<u8>, Fail> {
-    match &filled.last {
-        Some(sealed) => Ok(sealed.payload().to_vec(alloc)?),
+fn payload_of(alloc: Global, last: Option<Unsealed>) -> Result<Vec<u8>, Fail> {
+    match last {
+        Some(unsealed) => Ok(unsealed.seal().payload().to_vec(alloc)?),
         None => Err(Fail::from("no container")),
     }
 }
@@ -57,7 +57,7 @@ fn finished(alloc: Global, pass: Pass, mut out: Vec<Sealed>) -> Result<End, Fail
         rows: filled.rows.as_slice().len(),
         containers: filled.containers,
         written: filled.written,
-        last: payload_of(alloc, &filled)?,
+        last: payload_of(alloc, filled.last)?,
     })
 }
 

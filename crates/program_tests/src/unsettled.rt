@@ -1,9 +1,9 @@
 // Deletions over a shelf that an earlier run left unsettled, and a crash behind them.
 use crate::recorded::Recorded;
-use crate::running::{BACKUP, QUIET, Row, STANDARD, row_is, rows_are, run_on};
+use crate::running::{BACKUP, QUIET, Row, STANDARD, as_said, rows_are, run_on, run_with};
 use std::alloc::Global;
 use std::test::Fail;
-use vault_ports::MemShelf;
+use vault_ports::{MemPlaces, MemShelf, MemSource};
 
 const TWO: &[Row] = &[
     Row {
@@ -20,64 +20,80 @@ const TWO: &[Row] = &[
     },
 ];
 
-// What a store with the second version alone answers.
-const FIRST_IS_GONE: &[Row] = &[
-    Row {
-        words: "show --version 1",
-        status: 3,
-        report: b"error 3: version not kept\n",
-        ..QUIET
-    },
-    Row {
-        words: "restore --version 2",
-        out: b"bbbb",
-        report: b"restore 2: 4 bytes, 1 loads\n",
-        ..QUIET
-    },
-];
+// Over a store with the second version alone.
+const FIRST_IS_GONE: Row = Row {
+    words: "batch",
+    input: b"restore 1 x\nrestore 2 y\n",
+    status: 3,
+    out: b"error 3: version not kept\nrestore 2: 4 bytes, 1 loads\n",
+    ..QUIET
+};
 
-// The statuses of two deletions of the first version, each a run of its own, where one call of the first run fails; and the
-// shelf behind both.
-fn deleted_twice(alloc: Global, call: u64, keep: bool) -> Result<(u8, u8, Recorded), Fail> {
-    let shelf = rows_are(alloc, &STANDARD, TWO)?;
-    let recorded = Recorded::new(alloc, shelf, [call].to_vec(alloc)?, keep)?;
-    let one = run_on(alloc, "delete --through 1", b"", &STANDARD, recorded)?;
-    let other = run_on(alloc, "delete --through 1", b"", &STANDARD, one.shelf)?;
-    Ok((one.status, other.status, other.shelf))
+// Whether the shelf opens with the second version alone.
+fn is_gone(alloc: Global, image: MemShelf) -> Result<bool, Fail> {
+    let mut places = MemPlaces::with(alloc, Vec::new(alloc), 100)?;
+    let script = MemSource::new(FIRST_IS_GONE.input.to_vec(alloc)?, 100);
+    let seen = run_with(
+        alloc,
+        FIRST_IS_GONE.words,
+        &STANDARD,
+        image,
+        &mut places,
+        script,
+        1000,
+    )?;
+    as_said(alloc, &FIRST_IS_GONE, &seen)?;
+    Ok(places.bytes("y") == Some(b"bbbb".as_slice()))
 }
 
-// Whether in each image the second version is kept alone.
-fn is_gone_in_each(alloc: Global, recorded: &Recorded) -> Result<(), Fail> {
+// Whether it does whatever a crash leaves.
+fn is_gone_for_good(alloc: Global, recorded: &Recorded) -> Result<bool, Fail> {
     let images = 1u64 << recorded.unsettled().min(6);
     for taken in 0..images {
-        let mut image = recorded.image(alloc, taken)?;
-        for row in FIRST_IS_GONE {
-            image = row_is(alloc, &STANDARD, row, image)?;
+        if !is_gone(alloc, recorded.image(alloc, taken)?)? {
+            return Ok(false);
         }
     }
-    Ok(())
+    Ok(true)
 }
 
-// How many calls of the first run were refused. Behind each second deletion that is acknowledged, the first version is
-// gone whatever a crash leaves.
-fn refusals(alloc: Global, keep: bool) -> Result<u64, Fail> {
-    let mut refused = 0u64;
-    for call in 1..24u64 {
-        let (one, other, recorded) = deleted_twice(alloc, call, keep)?;
-        if one == 6 && other == 0 {
-            refused = refused.saturating_add(1);
-        }
-        if other == 0 {
-            is_gone_in_each(alloc, &recorded)?;
+const DELETE: &str = "delete --through 1";
+
+// Two deletions of the first version, each a run of its own, where one call of the first run fails: their statuses, and
+// whether the version is gone for good where the second is acknowledged.
+type Twice = (u8, u8, bool);
+
+fn deleted_twice(alloc: Global, shelf: MemShelf, call: u64, keep: bool) -> Result<Twice, Fail> {
+    let recorded = Recorded::new(alloc, shelf, [call].to_vec(alloc)?, keep)?;
+    let one = run_on(alloc, DELETE, b"", &STANDARD, recorded)?;
+    let other = run_on(alloc, DELETE, b"", &STANDARD, one.shelf)?;
+    let gone = other.status == 0 && is_gone_for_good(alloc, &other.shelf)?;
+    Ok((one.status, other.status, gone))
+}
+
+// The calls of the first run are the opening's six, the mending's three, the floor and its settling, and three removals.
+fn first_other(alloc: Global, keep: bool) -> Result<Option<(u64, Twice)>, Fail> {
+    let shelf = rows_are(alloc, &STANDARD, TWO)?;
+    for call in 1..=14u64 {
+        let status = if call <= 11 { 6 } else { 0 };
+        let found = deleted_twice(alloc, shelf.copy()?, call, keep)?;
+        if found != (status, 0, true) {
+            return Ok(Some((call, found)));
         }
     }
-    Ok(refused)
+    Ok(None)
 }
 
 #[test]
-fn a_deletion_that_is_acknowledged_stays_behind_a_crash(rt: HostRuntime) -> Result<(), Fail> {
-    let alloc = rt.alloc();
-    assert!(rt; refusals(alloc, false)? == 0, "{}", refusals(alloc, false)?);
-    assert!(rt; refusals(alloc, true)? == 0, "{}", refusals(alloc, true)?);
+fn a_deletion_behind_one_that_failed_stays(rt: HostRuntime) -> Result<(), Fail> {
+    let other = first_other(rt.alloc(), false)?;
+    assert!(rt; other == None, "{other:?}");
+    Ok(())
+}
+
+#[test]
+fn a_deletion_behind_one_that_was_done_and_failed_stays(rt: HostRuntime) -> Result<(), Fail> {
+    let other = first_other(rt.alloc(), true)?;
+    assert!(rt; other == None, "{other:?}");
     Ok(())
 }

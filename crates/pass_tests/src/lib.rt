@@ -4,6 +4,8 @@
 #[cfg(test)]
 mod copying;
 #[cfg(test)]
+mod cutting;
+#[cfg(test)]
 mod filling;
 #[cfg(test)]
 mod passing;

@@ -5,9 +5,6 @@ ghost use Rattle.std.specs.Prelude.{◌≡◌, ℕ, List, [], ◌++◌, map, OnO
 ghost use Rattle.vault_types.specs.Cuts.{cuts, settled, unsettled, only_bytes, HasCut};
 ghost use Rattle.stream_cutter.specs.Cutters.{IsCuttable};
 
-#[cfg(test)]
-mod tests;
-
 use chunk_ae::Ae;
 use chunk_fixed::Fixed;
 use std::alloc::Global;

@@ -6,7 +6,7 @@ use Rattle.vault_types.specs.declared.Fault.TheVariants as fault
 use Rattle.vault_types.specs.declared.Answer.{Answer}
 use Rattle.vault_traits.specs.Told.{ShelfTold, SinkTold}
 use Rattle.run_laws.specs.World.{World, status_after, report_text, IsPrinted, IsTold}
-use Rattle.run_laws.specs.Early.{IsSameBut, IsStartFault}
+use Rattle.run_laws.specs.Early.{HasOpened, IsSameBut, IsStartFault}
 use Rattle.run_laws.specs.Run.{EndsAtOpening}
 use Rattle.command_runner.specs.Going.{GoesOn}
 
@@ -21,8 +21,8 @@ not_opened Runs before now answers f g status shelf is none places input out lin
 
 -- a run of one answer, whose report is the text of its answers
 pub one_answer : (Runs : World → World → List Answer → Option Fault → Type 0) (before now : World) (a : Answer) (answers : List Answer) (f : Option Fault) (status : ℕ) → answers ≡ a ∷ [] → status ≡ status_after answers f
-    → Runs before now (a ∷ []) f → GoesOn Runs before now answers f status
-one_answer Runs before now a answers f status one stat runs = record { course = inr (subst (λ (l : List Answer). Runs before now l f) (sym one) runs); status_is = stat }
+    → HasOpened before.shelf → Runs before now (a ∷ []) f → GoesOn Runs before now answers f status
+one_answer Runs before now a answers f status one stat opened runs = record { course = inr (record { opened = opened; runs = subst (λ (l : List Answer). Runs before now l f) (sym one) runs }); status_is = stat }
 
 pub printed_one : (a : Answer) (answers slice : List Answer) (before now : SinkTold) (f : Option Fault) → answers ≡ a ∷ [] → slice ≡ answers → IsPrinted (report_text slice) before now f → IsPrinted (report_text (a ∷ [])) before now f
 printed_one a answers slice before now f one same printed = subst (λ (l : List Answer). IsPrinted (report_text l) before now f) (same ∙ one) printed

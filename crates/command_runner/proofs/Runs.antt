@@ -13,7 +13,7 @@ use Rattle.vault_traits.specs.Told.{ShelfTold, SourceTold}
 use Rattle.run_laws.specs.World.{World, status_after, IsTold}
 use Rattle.run_laws.specs.Early.{CanOpen, EndsEarly, IsBatch, IsEarly, IsSameBut, IsScript, IsScriptFault, LeavesShelfAlone}
 use Rattle.run_laws.specs.Courses.{RunsBatch}
-use Rattle.run_laws.specs.Run.{EndsAtOpening, IsRun, Runs, with_input}
+use Rattle.run_laws.specs.Run.{EndsAtOpening, IsRun, Runs, RunsOpened, with_input}
 use Rattle.run_laws.proofs.Openings.{ends, batch_run}
 use Rattle.command_runner.specs.Unbuilt.{IsUnbuilt, Unbuilt}
 use Rattle.command_runner.specs.Going.{BatchGoes, GoesOn, RefusesScript, RunsScript}
@@ -39,7 +39,7 @@ module _ (words : List (List ℕ)) (limits : Limits) (before now : World) (answe
 
   -- a command of one line
   pub one_line : (c : Command) (f : Option Fault) (status : ℕ) (Line : World → World → List Answer → Option Fault → Type 0) → command_of words ≡ Some c → CanOpen (Some c) limits before.input
-      → (Line before now answers f → Runs true Unbuilt c limits before now answers f) → GoesOn Line before now answers f status → IsRun true Unbuilt words limits before now answers f status
+      → (RunsOpened Line before now answers f → Runs true Unbuilt c limits before now answers f) → GoesOn Line before now answers f status → IsRun true Unbuilt words limits before now answers f status
   one_line c f status Line is can to goes = as_run c f status is goes.status_is
       (⊎_elim (λ early. inl (at_opening c f is can early)) (λ ran. inr (to ran)) goes.course)
 

@@ -8,11 +8,11 @@ use Rattle.vault_types.specs.declared.Answer.{Answer}
 use Rattle.vault_traits.specs.Told.{SourceTold}
 use Rattle.run_laws.specs.World.{World, status_after, IsTold}
 use Rattle.run_laws.specs.Early.{IsScript, IsScriptFault}
-use Rattle.run_laws.specs.Run.{EndsAtOpening, RanLines, with_input}
+use Rattle.run_laws.specs.Run.{EndsAtOpening, RanLines, RunsOpened, with_input}
 
--- it ends where the shelf is opened, or it runs as told; and its status
+-- it ends where the shelf is opened, or the shelf opens and it runs as told; and its status
 pub record GoesOn (Runs : World → World → List Answer → Option Fault → Type 0) (before now : World) (answers : List Answer) (f : Option Fault) (status : ℕ) : Type 0 where
-  pub course : IsSomeAnd f (EndsAtOpening before now answers) ⊎ Runs before now answers f
+  pub course : IsSomeAnd f (EndsAtOpening before now answers) ⊎ RunsOpened Runs before now answers f
   pub status_is : status ≡ status_after answers f
 
 -- a script could not be read: there is no answer, and nothing was written but the fault's line
@@ -30,7 +30,7 @@ pub record RunsScript (limits : Limits) (before now : World) (answers : List Ans
   pub lines : List Line
   pub script : IsScript limits before.input lines
   pub read : IfSome input.left (λ rest. rest ≡ [])
-  pub goes : IsSomeAnd f (EndsAtOpening (with_input before input) now answers) ⊎ RanLines true lines limits (with_input before input) now answers f
+  pub goes : IsSomeAnd f (EndsAtOpening (with_input before input) now answers) ⊎ RunsOpened (RanLines true lines limits) (with_input before input) now answers f
 
 pub record BatchGoes (limits : Limits) (before now : World) (answers : List Answer) (f : Option Fault) (status : ℕ) : Type 0 where
   pub course : IsSomeAnd f (RefusesScript limits before now answers) ⊎ RunsScript limits before now answers f

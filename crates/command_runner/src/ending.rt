@@ -5,7 +5,7 @@ ghost use Rattle.vault_types.specs.State.{State};
 ghost use Rattle.script_laws.specs.Leaves.{Begins};
 ghost use Rattle.script_laws.specs.Steps.{answer_of};
 ghost use Rattle.script_laws.specs.Strays.{StraysOf};
-ghost use Rattle.run_laws.specs.Early.{IsSameBut, IsStartFault};
+ghost use Rattle.run_laws.specs.Early.{HasOpened, IsSameBut, IsStartFault};
 ghost use Rattle.run_laws.specs.World as world;
 ghost use Rattle.run_laws.specs.World.{IsTold};
 
@@ -71,6 +71,7 @@ pub(crate) fn open_for_one<S: Shelf, K: ShelfStore<S>>(
     alloc: Global,
     shelf: S,
 ) -> Result<(K, Vec<Answer>), (Fault, S)>
+    ensures opened { IfOk result (λ k. HasOpened (S.told shelf)) }
     ensures same { IfOk result (λ k. IsSameBut (S.told shelf) (K.shelf k.0)) }
     ensures keeps { IfOk result (λ k. (T : State) → Begins (S.told shelf) T → K.keeps k.0 T None) }
     ensures strays { IfOk result (λ k. (T : State) → Begins (S.told shelf) T → (n : Named) → K.strays k.0 n → StraysOf (S.told shelf) T n) }

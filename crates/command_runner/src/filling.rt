@@ -9,7 +9,7 @@ ghost use Rattle.script_laws.specs.Outputs.{AreApartLines, AreFedBy};
 ghost use Rattle.script_laws.specs.Room.{NeedRoom};
 ghost use Rattle.script_laws.specs.Script.{RunsLines};
 ghost use Rattle.script_laws.specs.Strays.{StraysOf};
-ghost use Rattle.run_laws.specs.Early.{IsSameBut, IsStartFault};
+ghost use Rattle.run_laws.specs.Early.{HasOpened, IsSameBut, IsStartFault};
 ghost use Rattle.run_laws.specs.Filling.{AreGenerated, RunsFill};
 ghost use Rattle.word_ranges.specs.Ranges.{AreLimits, IsLineInRange};
 ghost use Rattle.workload.specs.Places.{told_of};
@@ -52,6 +52,7 @@ fn run_over<S: Shelf, K: ShelfStore<S>, Q: Places>(
     requires apart { AreApartLines lines.now }
     requires ranges { AllByRecursion IsLineInRange lines.now }
     requires limits { AreLimits limits.now }
+    ensures opened { IfOk result (λ done. HasOpened (S.told shelf)) }
     ensures runs { IfOk result (λ done. RunsLines true (Begins (S.told shelf)) (StraysOf (S.told shelf)) limits.now lines.now done.0.items (S.told shelf) (S.told done.1) (Q.told places.old) (Q.told places.new)) }
     ensures room { IfOk result (λ done. (T : State) (sources : Sources) → Begins (S.told shelf) T → AreFedBy (Q.told places.old).files sources lines.now → IsSome (Q.told places.old).files → NeedRoom Q.room sources T lines.now done.0.items) }
     ensures err { IfErr result (λ e. IsSameBut (S.told shelf) (S.told e.1) × IsStartFault (S.told shelf) (S.told e.1) e.0) }

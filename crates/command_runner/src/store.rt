@@ -4,7 +4,7 @@ ghost use Rattle.vault_types.specs.declared.Name.{Name as Named};
 ghost use Rattle.vault_types.specs.State.{State};
 ghost use Rattle.script_laws.specs.Leaves.{Begins};
 ghost use Rattle.script_laws.specs.Strays.{StraysOf};
-ghost use Rattle.run_laws.specs.Early.{IsSameBut, IsStartFault};
+ghost use Rattle.run_laws.specs.Early.{HasOpened, IsSameBut, IsStartFault};
 ghost use Rattle.run_laws.specs.Migrating.{MigratesStore};
 ghost use Rattle.command_runner.specs.Showing.{ReadsRecipe};
 
@@ -17,6 +17,7 @@ use vault_types::{Answer, Fault, Recipe, Set, Version};
 pub trait ShelfStore<S: Shelf>: Store {
     /// Opens the store. It writes nothing; `StoreFault`, `Damaged` with the first damage in the order of opening, `Memory`.
     fn start(alloc: Global, shelf: S) -> Result<Self, (Fault, S)>
+        ensures opened { IfOk result (λ k. HasOpened (S.told shelf)) }
         ensures same { IfOk result (λ k. IsSameBut (S.told shelf) (Self.shelf k)) }
         ensures keeps { IfOk result (λ k. (T : State) → Begins (S.told shelf) T → Self.keeps k T None) }
         ensures strays { IfOk result (λ k. (T : State) → Begins (S.told shelf) T → (n : Named) → Self.strays k n → StraysOf (S.told shelf) T n) }

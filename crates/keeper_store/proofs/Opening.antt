@@ -7,7 +7,7 @@ use Rattle.vault_types.specs.State.{State, IsValid}
 use Rattle.vault_types.specs.Shelf.{Blobs, Stands}
 use Rattle.vault_traits.specs.Crash.{History}
 use Rattle.vault_traits.specs.Told.{ShelfTold}
-use Rattle.keeper_catalog.specs.View.{View, Keeps, opened_core}
+use Rattle.keeper_catalog.specs.View.{View, Keeps, Opens, opened_core}
 use Rattle.script_laws.specs.Leaves.{Begins}
 use Rattle.script_laws.specs.Strays.{IsStray, StraysOf}
 use Rattle.run_laws.specs.Early.{IsSameBut}
@@ -17,6 +17,11 @@ use Rattle.serial_delete.proofs.Keeping.{opened_state, opened_known}
 some_told : (b : Option Blobs) (P : Blobs → Type 0) → IsSomeAnd b P → IsSome b
 some_told None P h = absurd h
 some_told (Some m) P h = refl
+
+-- the state as which the blobs open
+pub opened_as : (b : Option Blobs) (T : State) → IfSome b (λ m. Opens m T) → IfSome b (λ m. (U : State) × Opens m U)
+opened_as None T opens = tt
+opened_as (Some m) T opens = (T, opens)
 
 begun_keeps : (v : View) (b : Option Blobs) (T : State) → IfSome b (λ m. (U : State) → Stands m U → IsValid U → Keeps v (opened_core U v.memo.strays)) → IsSomeAnd b (λ m. Stands m T) → IsValid T → Keeps v (opened_core T v.memo.strays)
 begun_keeps v None T each stands valid = absurd stands

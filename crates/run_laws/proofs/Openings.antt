@@ -13,7 +13,7 @@ use Rattle.vault_traits.specs.Told.{ShelfTold, SourceTold}
 use Rattle.run_laws.specs.World.{World}
 use Rattle.run_laws.specs.Early.{IsBatch, IsScript, CanOpen, IsEarly, IsStartFault, IsSameBut, LeavesShelfAlone, EndsEarly}
 use Rattle.run_laws.specs.Courses.{RunsBatch}
-use Rattle.run_laws.specs.Run.{EndsAtOpening, RanLines, with_input}
+use Rattle.run_laws.specs.Run.{EndsAtOpening, RanLines, RunsOpened, with_input}
 
 early_why : (words : List (List ℕ)) (limits : Limits) (before now : World) (f : Fault) → CanOpen (command_of words) limits before.input → IsStartFault before.shelf now.shelf f → IsEarly words limits before now f
 early_why words limits before now fault.Memory can why = tt
@@ -59,18 +59,21 @@ module _ (words : List (List ℕ)) (limits : Limits) (before now : World) (input
   }
 
   pub batch_run : (in_order : Bool) (lines : List Line) (f : Option Fault) (queue lanes workers : ℕ) → command_of words ≡ Some (command.Batch queue lanes workers) → IsScript limits before.input lines → IfSome input.left (λ rest. rest ≡ [])
-      → IsSomeAnd f (EndsAtOpening (with_input before input) now answers) ⊎ RanLines in_order lines limits (with_input before input) now answers f
-      → IsSomeAnd f (EndsEarly words limits before now answers) ⊎ RunsBatch in_order limits before now answers f
+      → IsSomeAnd f (EndsAtOpening (with_input before input) now answers) ⊎ RunsOpened (RanLines in_order lines limits) (with_input before input) now answers f
+      → IsSomeAnd f (EndsEarly words limits before now answers) ⊎ RunsOpened (RunsBatch in_order limits) before now answers f
   batch_run in_order lines f queue lanes workers is script read (inl ended) = inl (at f ended)
     where
       at : (f : Option Fault) → IsSomeAnd f (EndsAtOpening (with_input before input) now answers) → IsSomeAnd f (EndsEarly words limits before now answers)
       at None h = absurd h
       at (Some f) h = ends f (subst (λ (o : Option Command). CanOpen o limits before.input) (sym is) (lines, script)) (inl (subst (λ (o : Option Command). IsBatch o) (sym is) tt)) h
   batch_run in_order lines f queue lanes workers is script read (inr ran) = inr (record {
-    lines = lines;
-    script = script;
-    read = subst (λ (s : SourceTold). IfSome s.left (λ rest. rest ≡ [])) (sym ran.input) read;
-    runs = ran.runs;
-    printed = ran.printed;
-    report = ran.report;
+    opened = ran.opened;
+    runs = record {
+      lines = lines;
+      script = script;
+      read = subst (λ (s : SourceTold). IfSome s.left (λ rest. rest ≡ [])) (sym ran.runs.input) read;
+      runs = ran.runs.runs;
+      printed = ran.runs.printed;
+      report = ran.runs.report;
+    };
   })

@@ -7,10 +7,12 @@ use Rattle.vault_types.specs.declared.Line.{Line}
 use Rattle.vault_types.specs.declared.Fault.{Fault}
 use Rattle.vault_types.specs.declared.Fault.TheVariants as fault
 use Rattle.vault_types.specs.declared.Answer.{Answer}
+use Rattle.vault_types.specs.State.{State}
 use Rattle.vault_types.specs.Words.{command_of, script_of}
 use Rattle.vault_traits.specs.Counts.{RiseFrom}
 use Rattle.vault_traits.specs.Told.{ShelfTold, SourceTold}
 use Rattle.blob_parts.specs.Causes.{IsCause}
+use Rattle.keeper_catalog.specs.View.{Opens}
 use Rattle.keeper_open.specs.Damage.{IsDamageOf}
 use Rattle.run_laws.specs.World.{World, IsTold}
 
@@ -29,6 +31,10 @@ IsScriptFault limits old new (fault.ReadFault n) = RiseFrom old.faults (n ∷ []
 IsScriptFault limits old new (fault.ScriptTooLong limit) = (limit ≡ limits.script) × IfSome old.left (λ text. limits.script < length text)
 IsScriptFault limits old new (fault.BadLine n) = IfSome old.left (λ text. (length text ≤ limits.script) × (script_of text ≡ Err n))
 IsScriptFault limits old new other = ⊥
+
+-- the blobs of the shelf, where they are told, open as a state
+abbrev pub HasOpened : ShelfTold → Type 0
+HasOpened shelf = IfSome shelf.blobs (λ m. (T : State) × Opens m T)
 
 -- why the opening of a shelf is refused: no memory, a shelf that failed, or the first damage in the order of opening
 abbrev pub IsStartFault : ShelfTold → ShelfTold → Fault → Type 0

@@ -12,7 +12,7 @@ use Rattle.script_laws.specs.Leaves.{Begins}
 use Rattle.script_laws.specs.Script.{RunsLines}
 use Rattle.script_laws.specs.Strays.{StraysOf}
 use Rattle.run_laws.specs.World.{World, status_after, IsPrinted, IsTold, report_text}
-use Rattle.run_laws.specs.Early.{EndsEarly, IsStartFault, IsSameBut}
+use Rattle.run_laws.specs.Early.{EndsEarly, HasOpened, IsStartFault, IsSameBut}
 use Rattle.run_laws.specs.Courses.{RunsBatch, RunsBackup, RunsRestore, RunsDelete, RunsShow}
 use Rattle.run_laws.specs.Filling.{RunsFill}
 use Rattle.run_laws.specs.Migrating.{RunsMigrate}
@@ -21,19 +21,25 @@ use Rattle.run_laws.specs.Migrating.{RunsMigrate}
 abbrev pub Course : Type 1
 Course = Limits → World → World → List Answer → Option Fault → Type 0
 
+-- a run over a shelf that opened
+pub record RunsOpened (Runs : World → World → List Answer → Option Fault → Type 0) (before now : World) (answers : List Answer) (f : Option Fault) : Type 0 where
+  pub opened : HasOpened before.shelf
+  pub runs : Runs before now answers f
+
 -- the scripts from words, from the input and of `fill`, `show` and `migrate`. What the other commands do is given: a backup with
 -- the sampled index, a restore by areas, and `scrub`
 abbrev pub Runs : Bool → (Command → Course) → Command → Course
-Runs in_order Others (command.Backup set config queue lanes None) limits before now answers f = RunsBackup set config limits before now answers f
-Runs in_order Others (command.Restore set version cache None) limits before now answers f = RunsRestore set version cache limits before now answers f
-Runs in_order Others (command.Delete set through) limits before now answers f = RunsDelete set through limits before now answers f
-Runs in_order Others (command.Show set version) limits before now answers f = RunsShow set version before now answers f
-Runs in_order Others (command.Batch queue lanes workers) limits before now answers f = RunsBatch in_order limits before now answers f
-Runs in_order Others (command.Fill seed versions queue lanes workers) limits before now answers f = RunsFill in_order seed versions limits before now answers f
-Runs in_order Others command.Migrate limits before now answers f = RunsMigrate before now answers f
+Runs in_order Others (command.Backup set config queue lanes None) limits before now answers f = RunsOpened (RunsBackup set config limits) before now answers f
+Runs in_order Others (command.Restore set version cache None) limits before now answers f = RunsOpened (RunsRestore set version cache limits) before now answers f
+Runs in_order Others (command.Delete set through) limits before now answers f = RunsOpened (RunsDelete set through limits) before now answers f
+Runs in_order Others (command.Show set version) limits before now answers f = RunsOpened (RunsShow set version) before now answers f
+Runs in_order Others (command.Batch queue lanes workers) limits before now answers f = RunsOpened (RunsBatch in_order limits) before now answers f
+Runs in_order Others (command.Fill seed versions queue lanes workers) limits before now answers f = RunsOpened (RunsFill in_order seed versions limits) before now answers f
+Runs in_order Others command.Migrate limits before now answers f = RunsOpened RunsMigrate before now answers f
 Runs in_order Others other limits before now answers f = Others other limits before now answers f
 
--- a run of the words: it ends before its first line, with a fault that has its cause, or it runs as the command says
+-- a run of the words: it ends before its first line, with a fault that has its cause, or its shelf opens and it runs as the
+-- command says. So over blobs that stand for no state it ends before its first line, and leaves them
 pub record IsRun (in_order : Bool) (Others : Command → Course) (words : List (List ℕ)) (limits : Limits) (before now : World) (answers : List Answer) (f : Option Fault) (status : ℕ) : Type 0 where
   pub course : IsSomeAnd f (EndsEarly words limits before now answers) ⊎ IsSomeAnd (command_of words) (λ c. Runs in_order Others c limits before now answers f)
   pub status_is : status ≡ status_after answers f

@@ -25,7 +25,7 @@ ghost use Rattle.run_laws.specs.World.{World, IsPrinted, report_text};
 ghost use Rattle.run_laws.specs.Early.{CanOpen, EndsEarly, IsBatch, IsSameBut, IsScript};
 ghost use Rattle.run_laws.specs.Courses.{RunsBackup, RunsBatch, RunsDelete, RunsRestore};
 ghost use Rattle.run_laws.specs.Filling.{RunsFill};
-ghost use Rattle.run_laws.specs.Run.{EndsAtOpening, IsRun, RanLines, with_input};
+ghost use Rattle.run_laws.specs.Run.{EndsAtOpening, IsRun, RanLines, RunsOpened, with_input};
 
 mod migrating;
 
@@ -43,8 +43,8 @@ pub fn openings_end_early()
 pub fn scripts_are_batches()
     ensures { (words : List (List ℕ)) (limits : Limits) (before now : World) (input : SourceTold) (answers : List Answer) (lines : List Line) (f : Option Fault) (queue lanes workers : ℕ) (in_order : Bool)
         → command_of words ≡ Some (command.Batch queue lanes workers) → IsScript limits before.input lines → IfSome input.left (λ rest. rest ≡ [])
-        → IsSomeAnd f (EndsAtOpening (with_input before input) now answers) ⊎ RanLines in_order lines limits (with_input before input) now answers f
-        → IsSomeAnd f (EndsEarly words limits before now answers) ⊎ RunsBatch in_order limits before now answers f }
+        → IsSomeAnd f (EndsAtOpening (with_input before input) now answers) ⊎ RunsOpened (RanLines in_order lines limits) (with_input before input) now answers f
+        → IsSomeAnd f (EndsEarly words limits before now answers) ⊎ RunsOpened (RunsBatch in_order limits) before now answers f }
 {}
 
 /// Lines that run behind an opening, which changes nothing of the shelf but its count of faults, are a run of them from

@@ -13,6 +13,7 @@ use Rattle.vault_types.specs.declared.Name.{Name}
 use Rattle.vault_types.specs.declared.Fault.{Fault}
 use Rattle.vault_types.specs.declared.Fault.TheVariants as fault
 use Rattle.vault_types.specs.declared.Kind.TheVariants as kind
+use Rattle.vault_types.specs.declared.Why.TheVariants as why
 use Rattle.vault_types.specs.declared.Answer.{Answer}
 use Rattle.vault_types.specs.declared.Answer.TheVariants.{Stored, Restored, Removed, Shown, Migrated, Scrubbed, Refused}
 use Rattle.vault_types.specs.declared.Line.{Line}
@@ -31,10 +32,10 @@ use Rattle.script_laws.specs.Causes.{CausesRise, fits, place_number, read_number
 use Rattle.script_laws.specs.Table.{MeansLine, MayBeAnswer, ShowsDamage}
 use Rattle.script_laws.specs.Leaves.{Gets}
 use Rattle.script_laws.specs.Complete.{IsWellAnswered}
-use Rattle.script_laws.specs.Outputs.{OnFiles, KeepsOthers, AreFedBy, IsOutput, IsOutputOf, IsFrontOf}
+use Rattle.script_laws.specs.Outputs.{OnFiles, KeepsOthers, AreFedBy, HasFront, IsOutput, IsOutputOf}
 use Rattle.script_laws.specs.Strays.{MayStayBehind}
 use Rattle.script_laws.specs.Steps.{StepsOn, StandsWith, read_numbered, write_numbered}
-use Rattle.script_laws.specs.Calls.{HasWritten}
+use Rattle.script_laws.specs.Calls.{HasWritten, writes_all}
 use Rattle.script_laws.proofs.Following.{near_with}
 
 -- ---- a refusal that moves nothing
@@ -522,7 +523,7 @@ output_of_change S s v name text cache answer (Some x) (Some y) Becomes same h o
 pub written_output : (limits : Limits) (S : State) (s v : ℕ) (cache : ℕ) (answer : Answer) (old new before now : Option (List ℕ)) (s0 s1 k0 k1 : ℕ) → true ≡ is_kept S s v
     → IsTrue (fits limits (Restore s v [] cache) answer) → CausesRise (record { store = s0; place = 0; read = 0; write = k0 }) (record { store = s1; place = 0; read = 0; write = k1 }) (answer ∷ [])
     → IsExact limits S (Restore s v [] cache) answer → HasWritten S s v answer old new → old ≡ Some [] → IfSome new (λ bytes. now ≡ Some bytes) → IsOutput (bytes_of S s v) answer before now
-written_output limits S s v cache answer old new before now s0 s1 k0 k1 kept kind causes exact written empty is = by answer kind causes.place (no_due answer exact) (λ done. written.3 done)
+written_output limits S s v cache answer old new before now s0 s1 k0 k1 kept fit causes exact written empty is = by answer fit causes.place (no_due answer exact) (λ done. written.3 done)
   where
     front : List ℕ
     front = written.0
@@ -536,29 +537,30 @@ written_output limits S s v cache answer old new before now s0 s1 k0 k1 kept kin
     no_due : (a : Answer) → IsExact limits S (Restore s v [] cache) a → refuses_by_state a ≡ false
     no_due a h = subst (λ (b : Bool). MatchOption (if b then None else Some (fault.NotKept s v (floor_of S s) (latest_of S s))) (refuses_by_state a ≡ false) (λ f. a ≡ Refused f)) (sym kept) h
 
-    other : (before ≡ before) → (now ≡ before) ⊎ ((part : List ℕ) × IsFrontOf part (bytes_of S s v) × (now ≡ Some part))
-    other e = inr (front, written.1, now_is)
+    some_front : HasFront (bytes_of S s v) now
+    some_front = (front, written.1, now_is)
 
-    by : (a : Answer) → IsTrue (fits limits (Restore s v [] cache) a) → RiseFrom 0 (cons_option (place_number a) []) 0 → refuses_by_state a ≡ false → (is_refused a ≡ false → front ≡ bytes_of S s v) → IsOutput (bytes_of S s v) a before now
-    by (Restored t w bytes loads) kind place due done = now_is ∙ ap (λ (x : List ℕ). Some x) (done refl)
-    by (Stored a b c d e f g) kind place due done = cc
-    by (Removed a b c d) kind place due done = cc
-    by (Shown a b c) kind place due done = cc
-    by (Migrated a) kind place due done = cc
-    by (Scrubbed a b) kind place due done = cc
-    by (Refused (fault.NotKept a b c d)) kind place due done = cc
-    by (Refused (fault.PlaceFault n)) kind place due done = absurd (omega (arith, place.0, place.1))
-    by (Refused fault.Usage) kind place due done = other refl
-    by (Refused (fault.ReadFault n)) kind place due done = other refl
-    by (Refused (fault.WriteFault n)) kind place due done = other refl
-    by (Refused (fault.StoreFault n)) kind place due done = other refl
-    by (Refused (fault.Damaged a b c)) kind place due done = other refl
-    by (Refused fault.Memory) kind place due done = other refl
-    by (Refused (fault.TooMany n)) kind place due done = other refl
-    by (Refused (fault.LastVersion a b c)) kind place due done = other refl
-    by (Refused (fault.BadLine n)) kind place due done = other refl
-    by (Refused (fault.ScriptTooLong n)) kind place due done = other refl
-    by (Refused (fault.Full a b c)) kind place due done = other refl
+    by : (a : Answer) → IsTrue (fits limits (Restore s v [] cache) a) → RiseFrom 0 (cons_option (place_number a) []) 0 → refuses_by_state a ≡ false → (IsTrue (writes_all a) → front ≡ bytes_of S s v) → IsOutput (bytes_of S s v) a before now
+    by (Restored t w bytes loads) fit place due done = now_is ∙ ap (λ (x : List ℕ). Some x) (done refl)
+    by (Stored a b c d e f g) fit place due done = cc
+    by (Removed a b c d) fit place due done = cc
+    by (Shown a b c) fit place due done = cc
+    by (Migrated a) fit place due done = cc
+    by (Scrubbed a b) fit place due done = cc
+    by (Refused (fault.NotKept a b c d)) fit place due done = cc
+    by (Refused (fault.PlaceFault n)) fit place due done = absurd (omega (arith, place.0, place.1))
+    by (Refused fault.Usage) fit place due done = some_front
+    by (Refused (fault.ReadFault n)) fit place due done = some_front
+    by (Refused (fault.WriteFault n)) fit place due done = some_front
+    by (Refused (fault.StoreFault n)) fit place due done = some_front
+    by (Refused (fault.Damaged kind.Recipe b (why.Whole want found))) fit place due done = now_is ∙ ap (λ (x : List ℕ). Some x) (done refl)
+    by (Refused (fault.Damaged a b c)) fit place due done = some_front
+    by (Refused fault.Memory) fit place due done = inr some_front
+    by (Refused (fault.TooMany n)) fit place due done = some_front
+    by (Refused (fault.LastVersion a b c)) fit place due done = some_front
+    by (Refused (fault.BadLine n)) fit place due done = some_front
+    by (Refused (fault.ScriptTooLong n)) fit place due done = some_front
+    by (Refused (fault.Full a b c)) fit place due done = some_front
 
 pub numbered_output : (bytes : List ℕ) (f : Fault) (m : ℕ) (before now : Option (List ℕ)) → IsOutput bytes (Refused f) before now → IsOutput bytes (Refused (write_numbered m f)) before now
 numbered_output bytes (fault.WriteFault n) m before now h = h

@@ -1,10 +1,12 @@
 -- What the calls of a keeper that run one line ensure: a backup of what a source has left, a restore to a sink, and a
 -- deletion. What the keeper keeps is given: a state, and the change that a failed write may have made; and the names that
 -- it knows as strays.
-use Rattle.std.specs.Prelude.{◌≡◌, ◌≤◌, ◌<◌, ℕ, false, IsTrue, List, [], ◌∷◌, length, Option, Some, IfSome, IfOk, IfErr, OnOk, Result, Ok, Err}
+use Rattle.std.specs.Prelude.{◌≡◌, ◌≤◌, ◌<◌, ℕ, Bool, true, false, not, IsTrue, List, [], ◌∷◌, length, Option, Some, IfSome, IfOk, IfErr, OnOk, Result, Ok, Err}
 use Rattle.vault_types.specs.declared.Limits.{Limits}
 use Rattle.vault_types.specs.declared.JobConfig.{JobConfig}
 use Rattle.vault_types.specs.declared.Name.{Name}
+use Rattle.vault_types.specs.declared.Kind.TheVariants as kind
+use Rattle.vault_types.specs.declared.Why.TheVariants as why
 use Rattle.vault_types.specs.declared.Fault.{Fault}
 use Rattle.vault_types.specs.declared.Fault.TheVariants as fault
 use Rattle.vault_types.specs.declared.Answer.{Answer}
@@ -35,14 +37,20 @@ pub record BacksUpLine (before behind : Keeping) (Known Behind : Name → Type 0
       × StepsOn limits (λ _. x) S other (Backup set [] config) (answer_of result) next Known Behind old new
   pub to_the_end : OnOk result (IfSome to.left (λ rest. rest ≡ []))
 
--- what a restore has written to a sink: all bytes of the version where it was done, a front of them where it was refused
+-- whether a restore writes all bytes of its version: one that is done does, and one that finds that they have another sum
+abbrev pub writes_all : Answer → Bool
+writes_all (Refused (fault.Damaged kind.Recipe number (why.Whole want found))) = true
+writes_all answer = not (is_refused answer)
+
+-- what a restore has written to a sink: all bytes of the version, or a front of them
 abbrev pub HasWritten : State → ℕ → ℕ → Answer → Option (List ℕ) → Option (List ℕ) → Type 0
 HasWritten S s v answer before now =
-    (front : List ℕ) × IsFrontOf front (bytes_of S s v) × Takes before now front × (is_refused answer ≡ false → front ≡ bytes_of S s v)
+    (front : List ℕ) × IsFrontOf front (bytes_of S s v) × Takes before now front × (IsTrue (writes_all answer) → front ≡ bytes_of S s v)
 
--- where the sink failed, it has taken less than these bytes
+-- where the sink failed, it has taken less than these bytes; where their sum is another, all of them
 abbrev pub IsShortAt : List ℕ → Option (List ℕ) → Option (List ℕ) → Fault → Type 0
 IsShortAt bytes before now (fault.WriteFault n) = (front : List ℕ) × Takes before now front × (length front < length bytes)
+IsShortAt bytes before now (fault.Damaged kind.Recipe number (why.Whole want found)) = Takes before now bytes
 IsShortAt bytes before now other = Unit {0}
 
 pub record RestoresLine (before behind : Keeping) (Known Behind : Name → Type 0) (set version slots : ℕ) (old new : ShelfTold) (from to : SinkTold) (result : Result Answer Fault) : Type 0 where

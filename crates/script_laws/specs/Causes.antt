@@ -1,9 +1,12 @@
 -- The faults that may refuse a line, and the numbers that they carry.
-use Rattle.std.specs.Prelude.{ℕ, Bool, true, false, ◌&&◌, ◌||◌, ◌==◌, IsTrue, List, [], ◌∷◌, Option, Some, None}
+use Rattle.std.specs.Prelude.{ℕ, Bool, true, false, not, ◌+◌, ◌*◌, ◌^◌, ◌&&◌, ◌||◌, ◌==◌, IsTrue, List, [], ◌∷◌, Option, Some, None}
 use Rattle.std.specs.List.{filter_map}
 use Rattle.std.specs.List.Sorted.{IsPermutation}
+use Rattle.vault_types.specs.declared.Kind.{Kind}
 use Rattle.vault_types.specs.declared.Kind.TheVariants as kind
 use Rattle.vault_types.specs.declared.Limits.{Limits}
+use Rattle.vault_types.specs.declared.Why.{Why}
+use Rattle.vault_types.specs.declared.Why.TheVariants as why
 use Rattle.vault_types.specs.declared.Fault.{Fault}
 use Rattle.vault_types.specs.declared.Fault.TheVariants as fault
 use Rattle.vault_types.specs.declared.Answer.{Answer}
@@ -11,6 +14,7 @@ use Rattle.vault_types.specs.declared.Answer.TheVariants.{Stored, Restored, Remo
 use Rattle.vault_types.specs.declared.Line.{Line}
 use Rattle.vault_types.specs.declared.Line.TheVariants.{Backup, Restore, Delete}
 use Rattle.vault_types.specs.State.{empty_state}
+use Rattle.vault_types.specs.Names.{same_fp}
 use Rattle.vault_types.specs.Refusals.{may_refuse}
 use Rattle.vault_traits.specs.Counts.{RiseFrom}
 use Rattle.vault_traits.specs.Told.{ShelfTold, SourceTold, SinkTold, PlacesTold}
@@ -22,9 +26,21 @@ may_be_due (Restore s v name cache) (fault.NotKept t w floor latest) = (s == t) 
 may_be_due (Delete s n) (fault.LastVersion t through latest) = (s == t) && (n == through)
 may_be_due line other = false
 
+-- whether a restore may find this wrong with the recipe of its version, or with a payload
+abbrev pub may_be_wrong : Kind → Why → Bool
+may_be_wrong kind.Recipe why.Absent = true
+may_be_wrong kind.Recipe why.Spelling = true
+may_be_wrong kind.Recipe (why.BadRow row) = true
+may_be_wrong kind.Recipe (why.Whole want found) = not (same_fp want found)
+may_be_wrong kind.Payload why.Absent = true
+may_be_wrong kind.Payload (why.Length want found) = not (want == found)
+may_be_wrong kind.Payload (why.Sum want found) = not (same_fp want found)
+may_be_wrong kind other = false
+
 -- whether another fault may refuse the line in some state: only the state says which payloads a restore names
 abbrev pub may_ever_refuse : Limits → Line → Fault → Bool
-may_ever_refuse limits (Restore s v name cache) (fault.Damaged kind.Payload number why) = true
+may_ever_refuse limits (Restore s v name cache) (fault.Damaged kind.Payload number why) = may_be_wrong kind.Payload why
+may_ever_refuse limits (Restore s v name cache) (fault.Damaged kind.Recipe number why) = (number == s * 2 ^ 32 + v) && may_be_wrong kind.Recipe why
 may_ever_refuse limits line f = may_refuse limits (empty_state 0) line f
 
 -- whether an answer is one for lines of this kind

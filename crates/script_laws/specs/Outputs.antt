@@ -1,6 +1,8 @@
 -- What the restores of a script write.
 use Rattle.std.specs.Prelude.{◌≡◌, ◌⊎◌, ℕ, false, IsTrue, List, [], ◌∷◌, ◌++◌, flat_map, unwrap_or, Contains, Option, Some, None, IsSomeAnd}
 use Rattle.vault_types.specs.declared.Fault.TheVariants as fault
+use Rattle.vault_types.specs.declared.Kind.TheVariants as kind
+use Rattle.vault_types.specs.declared.Why.TheVariants as why
 use Rattle.vault_types.specs.declared.Answer.{Answer}
 use Rattle.vault_types.specs.declared.Answer.TheVariants.{Restored, Refused}
 use Rattle.vault_types.specs.declared.Line.{Line}
@@ -16,13 +18,20 @@ use Rattle.vault_traits.specs.Files.{MayBeEmptied}
 abbrev pub IsFrontOf : List ℕ → List ℕ → Type 0
 IsFrontOf front whole = (rest : List ℕ) × (front ++ rest ≡ whole)
 
--- what a restore makes of what a name has: a restore that was done gives it the version's bytes; one that is not kept
--- leaves it; one whose place could not be opened leaves it or empties it; any other refused one may have given a front
+-- the name has a front of the bytes
+abbrev pub HasFront : List ℕ → Option (List ℕ) → Type 0
+HasFront bytes now = (front : List ℕ) × IsFrontOf front bytes × (now ≡ Some front)
+
+-- what a restore makes of what a name has: a restore that was done gives it the version's bytes, and so does one whose
+-- bytes have another sum; one that is not kept leaves it; one whose place could not be opened leaves it or empties it; one
+-- that had no memory leaves it or gives it a front; any other refused one has opened it, and gives it a front
 abbrev pub IsOutput : List ℕ → Answer → Option (List ℕ) → Option (List ℕ) → Type 0
 IsOutput bytes (Restored s v n loads) before now = now ≡ Some bytes
 IsOutput bytes (Refused (fault.NotKept s v floor latest)) before now = now ≡ before
 IsOutput bytes (Refused (fault.PlaceFault n)) before now = MayBeEmptied before now
-IsOutput bytes (Refused f) before now = (now ≡ before) ⊎ ((front : List ℕ) × IsFrontOf front bytes × (now ≡ Some front))
+IsOutput bytes (Refused fault.Memory) before now = (now ≡ before) ⊎ HasFront bytes now
+IsOutput bytes (Refused (fault.Damaged kind.Recipe number (why.Whole want found))) before now = now ≡ Some bytes
+IsOutput bytes (Refused f) before now = HasFront bytes now
 IsOutput bytes other before now = ⊥
 
 abbrev pub IsOutputOf : State → Line → Answer → Files → Files → Type 0

@@ -7,7 +7,7 @@ use Rattle.vault_types.specs.declared.Why.{Why}
 use Rattle.vault_types.specs.declared.Why.TheVariants as why
 use Rattle.vault_types.specs.declared.Fault.TheVariants as fault
 use Rattle.vault_types.specs.declared.Answer.{Answer}
-use Rattle.vault_types.specs.declared.Answer.TheVariants.{Refused}
+use Rattle.vault_types.specs.declared.Answer.TheVariants.{Restored, Refused}
 use Rattle.vault_types.specs.declared.Line.{Line}
 use Rattle.vault_types.specs.declared.Line.TheVariants.{Backup, Restore, Delete}
 use Rattle.vault_types.specs.Cuts.{cuts}
@@ -45,7 +45,9 @@ IsDamage S s v kind.Payload number why = IsSomeAnd (container_in S.containers nu
 IsDamage S s v kind.Recipe number why = IsRecipeDamage S s v why
 IsDamage S s v kind.Floor number why = ⊥
 
+-- a restore that was done found none: the bytes have the version's sum. Damage that refuses one is there
 abbrev pub ShowsDamage : State → Line → Answer → Type 0
+ShowsDamage S (Restore s v name cache) (Restored t w bytes loads) = IsSomeAnd (version_of S s v) (λ k. fp (bytes_of S s v) ≡ k.sum)
 ShowsDamage S (Restore s v name cache) (Refused (fault.Damaged kind number why)) = IsDamage S s v kind number why
 ShowsDamage S line answer = Unit {0}
 

@@ -7,6 +7,8 @@ use Rattle.vault_types.specs.declared.Answer.{Answer}
 use Rattle.vault_types.specs.declared.Answer.TheVariants.{Restored}
 use Rattle.vault_types.specs.declared.Fault.{Fault}
 use Rattle.vault_types.specs.declared.Fault.TheVariants as fault
+use Rattle.vault_types.specs.declared.Kind.TheVariants as kind
+use Rattle.vault_types.specs.declared.Why.TheVariants as why
 use Rattle.vault_types.specs.declared.Fp.{Fp}
 use Rattle.vault_types.specs.declared.Name.{Name}
 use Rattle.vault_types.specs.declared.Spot.{Spot}
@@ -110,6 +112,7 @@ not_kept_gone v told s n slots floor latest kept low high = record {
 
 pin_short : (bytes : List ℕ) (before now : Option (List ℕ)) (a b : ℕ) (told : Option Blobs) (S : State) (s n : ℕ) (f : Fault) → IsCause a b (IsPinDamage told S s n) f → IsShortAt bytes before now f
 pin_short bytes before now a b told S s n (fault.WriteFault i) h = absurd h
+pin_short bytes before now a b told S s n (fault.Damaged kind.Recipe i (why.Whole want found)) h = absurd h.1
 pin_short bytes before now a b told S s n other h = tt
 
 -- a pin that was refused

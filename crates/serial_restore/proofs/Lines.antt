@@ -1,10 +1,12 @@
 -- A restore's line, from what the restore comes to.
-use Rattle.std.proofs.Common.{◌≡◌, ◌⊎◌, inl, inr, ⊎_elim, ◌≤◌, ◌<◌, ◌&&◌, ◌||◌, ℕ, Bool, true, false, IsTrue, List, [], ◌∷◌, length, map, Option, Some, None, refl, sym, ◌∙◌, ap, subst, arith}
-use Rattle.std.specs.Prelude.{IsSome, IfSome, IfOk, IfErr, Result, Ok, Err, Contains, MatchOption, if◌then◌else◌, ◌==◌}
+use Rattle.std.proofs.Common.{◌≡◌, ◌≢◌, ◌⊎◌, inl, inr, ⊎_elim, ◌≤◌, ◌<◌, ◌&&◌, ◌||◌, ℕ, Bool, true, false, not, nat_eq, IsTrue, List, [], ◌∷◌, length, map, Option, Some, None, refl, sym, ◌∙◌, ap, subst, arith}
+use Rattle.std.specs.Prelude.{IsSome, IsSomeAnd, IfSome, IfOk, IfErr, Result, Ok, Err, Contains, MatchOption, if◌then◌else◌, ◌==◌}
 use Rattle.std.specs.Option.{option_map_or}
 use Rattle.std.proofs.lemmas.List.{append-nil}
 use Rattle.vault_types.specs.declared.Limits.{Limits}
 use Rattle.vault_types.specs.declared.Name.{Name}
+use Rattle.vault_types.specs.declared.Fp.{Fp}
+use Rattle.vault_types.specs.declared.Table.{Table}
 use Rattle.vault_types.specs.declared.Kind.TheVariants as kind
 use Rattle.vault_types.specs.declared.Why.{Why}
 use Rattle.vault_types.specs.declared.Why.TheVariants as why
@@ -14,6 +16,8 @@ use Rattle.vault_types.specs.declared.Answer.{Answer}
 use Rattle.vault_types.specs.declared.Answer.TheVariants.{Restored, Refused}
 use Rattle.vault_types.specs.declared.Line.TheVariants.{Restore}
 use Rattle.vault_types.specs.Bytes.{bytes_of}
+use Rattle.vault_types.specs.Names.{fp, same_fp}
+use Rattle.vault_types.proofs.FillLemmas.{same_fps}
 use Rattle.vault_types.specs.Events.{Core, Change, IsNear, with_pins}
 use Rattle.vault_types.specs.Plans.{requests, IsLeast}
 use Rattle.vault_types.specs.Refusals.{is_of_state, may_refuse, refuses_by_state, IsExact}
@@ -26,12 +30,13 @@ use Rattle.vault_traits.specs.Told.{SinkTold}
 use Rattle.vault_traits.proofs.Moments.{ends, more}
 use Rattle.restore_assembler.proofs.Written.{takes_nothing}
 use Rattle.keeper_catalog.specs.View.{View, Keeps, HasCore}
-use Rattle.commit_laws.proofs.Listing.{itself}
+use Rattle.commit_laws.proofs.Listing.{itself, same_number}
+use Rattle.container_store.specs.Damages.{IsPayloadDamage}
 use Rattle.deletion_laws.proofs.Members.{clash, or_left}
 use Rattle.keeper_core.specs.Calls.{IsPinDamage}
 use Rattle.keeper_core.proofs.Replacings.{version_there}
-use Rattle.script_laws.specs.Calls.{RestoresLine, HasWritten, IsShortAt}
-use Rattle.script_laws.specs.Causes.{CausesRise, fits, counts_of_sink}
+use Rattle.script_laws.specs.Calls.{RestoresLine, HasWritten, IsShortAt, writes_all}
+use Rattle.script_laws.specs.Causes.{CausesRise, fits, may_be_wrong, counts_of_sink}
 use Rattle.script_laws.specs.Complete.{IsWell, IsWellAnswered}
 use Rattle.script_laws.specs.Leaves.{Gets}
 use Rattle.script_laws.specs.Steps.{StepsOn, StraysStep, BearsStep, StandsWith, answer_of}
@@ -41,7 +46,7 @@ use Rattle.script_laws.proofs.LineLemmas.{unmoved, not_kept_means, not_kept_is}
 use Rattle.vault_types.specs.declared.Pending.TheVariants as pending
 use Rattle.serial_delete.specs.Keeping.{IsStateOf, IsKnownStray}
 use Rattle.serial_delete.proofs.Keeping.{changed_of, images_of}
-use Rattle.serial_restore.specs.Going.{IsAtMostLeast}
+use Rattle.serial_restore.specs.Going.{IsAtMostLeast, TakesFront}
 use Rattle.serial_restore.specs.Restoring.{IsRestoreFault, IsBadPayloadOf, IsWrongSumOf, IsLeft, HasGone}
 use Rattle.serial_restore.proofs.Damages.{undamaged, shown}
 use Rattle.serial_restore.proofs.Goings.{not_kept_gone}
@@ -62,6 +67,40 @@ sum_number : (told : Option Blobs) (S : State) (s n i : ℕ) (y : Why) → IsWro
 sum_number told S s n i (why.Whole want found) h = h.0
 sum_number told S s n i y h = absurd h
 
+-- what may be wrong in a restore
+other_sum : (want found : Fp) → found ≢ want → not (same_fp want found) ≡ true
+other_sum want found apart = by (same_fp want found) refl
+  where
+    by : (b : Bool) → same_fp want found ≡ b → not b ≡ true
+    by true e = absurd (apart (sym (same_fps want found e)))
+    by false e = refl
+
+other_length : (want found : ℕ) → found ≢ want → not (nat_eq want found) ≡ true
+other_length want found apart = by (nat_eq want found) refl
+  where
+    by : (b : Bool) → nat_eq want found ≡ b → not b ≡ true
+    by true e = absurd (apart (same_number want found e))
+    by false e = refl
+
+pin_wrong : (told : Option Blobs) (S : State) (s n i : ℕ) (y : Why) → IsPinDamage told S s n kind.Recipe i y → IsTrue (may_be_wrong kind.Recipe y)
+pin_wrong told S s n i (why.BadRow j) h = refl
+pin_wrong told S s n i why.Absent h = refl
+pin_wrong told S s n i why.Spelling h = refl
+pin_wrong told S s n i other h = absurd h.1
+
+sum_wrong : (told : Option Blobs) (S : State) (s n i : ℕ) (y : Why) → IsWrongSumOf told S s n kind.Recipe i y → IsTrue (may_be_wrong kind.Recipe y)
+sum_wrong told S s n i (why.Whole want found) h = other_sum want found h.1
+sum_wrong told S s n i other h = absurd h
+
+recipe_wrong : (told : Option Blobs) (S : State) (s n i : ℕ) (y : Why) → IsPinDamage told S s n kind.Recipe i y ⊎ (IsBadPayloadOf told S s n kind.Recipe i y ⊎ IsWrongSumOf told S s n kind.Recipe i y) → IsTrue (may_be_wrong kind.Recipe y)
+recipe_wrong told S s n i y h = ⊎_elim (λ pin. pin_wrong told S s n i y pin) (λ e. ⊎_elim (λ bad. absurd bad.2) (λ wrong. sum_wrong told S s n i y wrong) e) h
+
+payload_wrong : (told : Option Blobs) (t : Table) (i : ℕ) (y : Why) → IsPayloadDamage told t kind.Payload i y → IsTrue (may_be_wrong kind.Payload y)
+payload_wrong told t i why.Absent h = refl
+payload_wrong told t i (why.Length want found) h = other_length want found h.1.2.2
+payload_wrong told t i (why.Sum want found) h = other_sum want found h.1.2.3
+payload_wrong told t i other h = absurd h.1.2
+
 damage_number : (told : Option Blobs) (S : State) (s n i : ℕ) (y : Why) → IsPinDamage told S s n kind.Recipe i y ⊎ (IsBadPayloadOf told S s n kind.Recipe i y ⊎ IsWrongSumOf told S s n kind.Recipe i y) → i ≡ (recipe_name s n).number
 damage_number told S s n i y h = ⊎_elim (λ pin. pin_number told S s n i y pin) (λ e. ⊎_elim (λ bad. absurd bad.2) (λ wrong. sum_number told S s n i y wrong) e) h
 
@@ -71,8 +110,10 @@ module _ (v x : View) (before now : SinkTold) (S : State) (s n slots : ℕ) wher
   kind_err limits (fault.StoreFault i) h = refl
   kind_err limits (fault.WriteFault i) h = refl
   kind_err limits (fault.Damaged kind.Recipe i y) h =
-      or_left (i == (recipe_name s n).number) false (ap (λ (m : ℕ). m == (recipe_name s n).number) (damage_number v.told.blobs S s n i y h) ∙ itself (recipe_name s n).number)
-  kind_err limits (fault.Damaged kind.Payload i y) h = refl
+      or_left ((i == (recipe_name s n).number) && may_be_wrong kind.Recipe y) false
+      (both (ap (λ (m : ℕ). m == (recipe_name s n).number) (damage_number v.told.blobs S s n i y h) ∙ itself (recipe_name s n).number) (recipe_wrong v.told.blobs S s n i y h))
+  kind_err limits (fault.Damaged kind.Payload i y) h =
+      or_left (may_be_wrong kind.Payload y) false (⊎_elim (λ pin. absurd pin) (λ e. ⊎_elim (λ bad. payload_wrong v.told.blobs bad.0.table i y bad.2) (λ wrong. absurd wrong) e) h)
   kind_err limits (fault.Damaged kind.Table i y) h = absurd (⊎_elim (λ pin. pin) (λ e. ⊎_elim (λ bad. bad.2) (λ wrong. wrong) e) h)
   kind_err limits (fault.Damaged kind.Floor i y) h = absurd (⊎_elim (λ pin. pin) (λ e. ⊎_elim (λ bad. bad.2) (λ wrong. wrong) e) h)
   kind_err limits fault.Memory h = refl
@@ -151,7 +192,7 @@ module _ (v x : View) (before now : SinkTold) (s n slots : ℕ) (limits : Limits
             K.other,
             state_is gone.left,
             record {
-              means = record { done = inr done; exact = exact_kept limits K.state s n slots (Restored s n (length (bytes_of K.state s n)) is.loads) kept refl; refused = tt; limit = tt; damage = tt };
+              means = record { done = inr done; exact = exact_kept limits K.state s n slots (Restored s n (length (bytes_of K.state s n)) is.loads) kept refl; refused = tt; limit = tt; damage = subst (λ (o : Option KeptVersion). IsSomeAnd o (λ j. fp (bytes_of K.state s n) ≡ j.sum)) (sym there) is.sum };
               complete = λ well. inl done;
               next_other = inr (inl (inr refl, refl));
               gets = (is.loads, is.gets, least);
@@ -208,17 +249,19 @@ module _ (v x : View) (before now : SinkTold) (s n slots : ℕ) (limits : Limits
 -- ---- what is written
 
 module _ (v x : View) (before now : SinkTold) (s n slots : ℕ) (K : Core) (keeps : Keeps v K) (told : IsSome v.told.blobs) where
+  refused_written : (f : Fault) → TakesFront before now (bytes_of K.state s n) → IsShortAt (bytes_of K.state s n) before.taken now.taken f → HasWritten K.state s n (Refused f) before.taken now.taken
+  refused_written (fault.Damaged kind.Recipe i (why.Whole want found)) front all = (bytes_of K.state s n, ([], append-nil (bytes_of K.state s n)), all, λ done. refl)
+  refused_written other front all = (front.front, (front.rest, front.parts), front.taken, λ done. absurd (let e : false ≡ true = done in cc))
+
   kept_written : (k : KeptVersion) → version_of K.state s n ≡ Some k → (result : Result Answer Fault) → HasGone v x before now s n slots result → HasWritten K.state s n (answer_of result) before.taken now.taken
   kept_written k there (Ok a) gone = (bytes_of K.state s n, ([], append-nil (bytes_of K.state s n)), (gone.ok told K k keeps there).taken, λ done. refl)
-  kept_written k there (Err f) gone =
-      let front = (gone.err told K k keeps there).front in
-      (front.front, (front.rest, front.parts), front.taken, λ done. absurd (let e : true ≡ false = done in cc))
+  kept_written k there (Err f) gone = refused_written f (gone.err told K k keeps there).front (gone.short told K k keeps there)
 
-  not_kept_written : (result : Result Answer Fault) (f : Fault) → result ≡ Err f → now ≡ before → HasWritten K.state s n (answer_of result) before.taken now.taken
-  not_kept_written result f is same =
+  not_kept_written : (result : Result Answer Fault) (f : Fault) → writes_all (Refused f) ≡ false → result ≡ Err f → now ≡ before → HasWritten K.state s n (answer_of result) before.taken now.taken
+  not_kept_written result f few is same =
       subst (λ (w : SinkTold). HasWritten K.state s n (answer_of result) before.taken w.taken) (sym same)
       (subst (λ (r : Result Answer Fault). HasWritten K.state s n (answer_of r) before.taken before.taken) (sym is)
-      ([], (bytes_of K.state s n, refl), takes_nothing before.taken, λ done. absurd (let e : true ≡ false = done in cc)))
+      ([], (bytes_of K.state s n, refl), takes_nothing before.taken, λ done. absurd (let e : false ≡ true = sym few ∙ done in cc)))
 
 -- ---- the whole
 
@@ -258,7 +301,7 @@ restores v x before now s n slots result core range exact still gone = record {
     written_in K keeps told true kept =
         let k = version_there K.state s n keeps.core.state kept in
         kept_written v x before now s n slots K keeps told k.0 k.1 result gone
-    written_in K keeps told false kept = not_kept_written v x before now s n slots K keeps told result (fault.NotKept s n (floor_of K.state s) (latest_of K.state s)) (exact K keeps kept) (still K keeps kept).1
+    written_in K keeps told false kept = not_kept_written v x before now s n slots K keeps told result (fault.NotKept s n (floor_of K.state s) (latest_of K.state s)) refl (exact K keeps kept) (still K keeps kept).1
 
     short_at : (K : Core) → (IsSome v.told.blobs → (k : KeptVersion) → version_of K.state s n ≡ Some k → IfErr result (IsShortAt (bytes_of K.state s n) before.taken now.taken)) → IsSome v.told.blobs → (b : Bool) → is_kept K.state s n ≡ b → Keeps v K
         → IfErr result (IsShortAt (bytes_of K.state s n) before.taken now.taken)

@@ -114,6 +114,7 @@ taken_found bytes before now other h = tt
 
 load_short : (bytes : List ℕ) (before now : Option (List ℕ)) (a b : ℕ) (told : Option Blobs) (c : Container) (f : Fault) → IsCause a b (IsPayloadDamage told c.table) f → IsShortAt bytes before now f
 load_short bytes before now a b told c (fault.WriteFault n) h = absurd h
+load_short bytes before now a b told c (fault.Damaged kind.Recipe n (why.Whole want found)) h = absurd h
 load_short bytes before now a b told c other h = tt
 
 taken_short : (bytes : List ℕ) (before now : SinkTold) (f : Fault) → IsTakenAt bytes before now f → IsShortAt bytes before.taken now.taken f
@@ -122,6 +123,7 @@ taken_short bytes before now (fault.WriteFault n) h =
     let sum : length (h.0 ++ h.1) ≡ length h.0 + length h.1 = length-append h.0 h.1 in
     let some : 0 < length h.1 = h.3 in
     (h.0, h.4, omega arith)
+taken_short bytes before now (fault.Damaged kind.Recipe n (why.Whole want found)) h = h.1
 taken_short bytes before now other h = tt
 
 taken_front : (bytes : List ℕ) (before now : SinkTold) (f : Fault) → IsTakenAt bytes before now f → TakesFront before now bytes

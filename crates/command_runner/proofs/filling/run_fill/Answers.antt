@@ -49,7 +49,10 @@ returns g c =
     let before : World = record { shelf = s c.args.shelf; places = p; input = g.I.Source.told c.args.input; out = o c.args.out; report = r } in
     let now : World = record { shelf = s done.1; places = p; input = g.I.Source.told c.args.input; out = o c.print_filled-fault.new.out; report = r } in
     record {
-      course = inr (filled c.args.seed c.args.versions c.args.limits.now before now c.in-Ok.made.0.items c.as_slice-script.result.now done.0.items c.as_slice.result.now c.print_filled-fault.result c.in-Ok.made.1 c.run_over.new.places
-          c.in-Ok.ensures.lines c.as_slice-script.ensures.value c.as_slice.ensures.value c.in-Ok.ensures.places c.in-Ok-run_over.ensures.runs c.in-Ok-run_over.ensures.room c.print_filled-fault.ensures refl refl refl);
+      course = inr (record {
+        opened = c.in-Ok-run_over.ensures.opened;
+        runs = filled c.args.seed c.args.versions c.args.limits.now before now c.in-Ok.made.0.items c.as_slice-script.result.now done.0.items c.as_slice.result.now c.print_filled-fault.result c.in-Ok.made.1 c.run_over.new.places
+            c.in-Ok.ensures.lines c.as_slice-script.ensures.value c.as_slice.ensures.value c.in-Ok.ensures.places c.in-Ok-run_over.ensures.runs c.in-Ok-run_over.ensures.room c.print_filled-fault.ensures refl refl refl;
+      });
       status_is = status_of_slice c.status_after.result done.0.items c.as_slice-2.result.now c.print_filled-fault.result c.as_slice-2.ensures.value c.status_after.ensures;
     }

@@ -18,5 +18,5 @@ returns g c =
     let one = pushed_one c.push.new.self.items c.in-Ok.opened.1.items c.answer_from.result a c.in-Ok-push.ensures.items c.in-Ok.ensures.room.0 c.answer_from.ensures in
     let printed = printed_one a c.push.new.self.items c.as_slice.result.now (o c.args.out) (o c.print_all-fault.new.out) c.print_all-fault.result one c.as_slice.ensures.value c.print_all-fault.ensures.printed in
     one_answer (RunsBackup c.args.set c.args.config.now c.args.limits.now) before now a c.push.new.self.items c.print_all-fault.result c.status_after.result one (status_of_slice c.status_after.result c.push.new.self.items c.as_slice-2.result.now c.print_all-fault.result c.as_slice-2.ensures.value c.status_after.ensures)
-    (backup_run g.K.StateKeeper.shelf g.K.StateKeeper.keeps g.K.StateKeeper.strays g.K.StateKeeper.keeps_is g.K.StateKeeper.strays_known c.args.limits.now before now c.in-Ok.opened.0 c.back_up-result.new.self c.args.set c.args.config.now c.back_up-result.result c.print_all-fault.result
+    c.in-Ok.ensures.opened (backup_run g.K.StateKeeper.shelf g.K.StateKeeper.keeps g.K.StateKeeper.strays g.K.StateKeeper.keeps_is g.K.StateKeeper.strays_known c.args.limits.now before now c.in-Ok.opened.0 c.back_up-result.new.self c.args.set c.args.config.now c.back_up-result.result c.print_all-fault.result
     c.in-Ok.ensures.same c.close.ensures c.in-Ok.ensures.strays c.in-Ok.ensures.keeps c.back_up-result.ensures printed refl refl)

@@ -19,12 +19,15 @@ returns-in-Ok-script_plain g c =
     let done = c.in-Ok-script_plain.done in
     record {
       course = inr (record {
-        runs = subst (λ (t : ShelfTold). RunsLines true (Begins old) (StraysOf old) c.args.limits.now c.args.lines.now done.answers.items old t p q) (sym c.close-in-Ok-script_plain.ensures)
-            (runs_opened true c.args.limits.now c.args.lines.now done.answers.items old (g.K.StateKeeper.shelf c.in-Ok.store) (g.K.StateKeeper.shelf done.store) p q (λ (S : State). g.K.StateKeeper.keeps c.in-Ok.store S None) (Begins old)
-            (λ (S : State). g.K.StateKeeper.strays c.in-Ok.store) (StraysOf old) c.in-Ok.ensures.same c.in-Ok.ensures.keeps c.in-Ok.ensures.strays c.in-Ok-script_plain.ensures.runs);
-        printed = subst (λ (l : List Answer). IsPrinted (report_text l) (g.O.Sink.told c.args.out) (g.O.Sink.told c.print_all-fault.new.out) c.print_all-fault.result) c.as_slice.ensures.value c.print_all-fault.ensures.printed;
-        report = refl;
-        input = refl;
+        opened = c.in-Ok.ensures.opened;
+        runs = record {
+          runs = subst (λ (t : ShelfTold). RunsLines true (Begins old) (StraysOf old) c.args.limits.now c.args.lines.now done.answers.items old t p q) (sym c.close-in-Ok-script_plain.ensures)
+              (runs_opened true c.args.limits.now c.args.lines.now done.answers.items old (g.K.StateKeeper.shelf c.in-Ok.store) (g.K.StateKeeper.shelf done.store) p q (λ (S : State). g.K.StateKeeper.keeps c.in-Ok.store S None) (Begins old)
+              (λ (S : State). g.K.StateKeeper.strays c.in-Ok.store) (StraysOf old) c.in-Ok.ensures.same c.in-Ok.ensures.keeps c.in-Ok.ensures.strays c.in-Ok-script_plain.ensures.runs);
+          printed = subst (λ (l : List Answer). IsPrinted (report_text l) (g.O.Sink.told c.args.out) (g.O.Sink.told c.print_all-fault.new.out) c.print_all-fault.result) c.as_slice.ensures.value c.print_all-fault.ensures.printed;
+          report = refl;
+          input = refl;
+        };
       });
       status_is = status_of_slice c.status_after.result done.answers.items c.as_slice-in-Ok-script_plain.result.now c.print_all-fault.result c.as_slice-in-Ok-script_plain.ensures.value c.status_after.ensures;
     }

@@ -49,7 +49,7 @@ fits : (left : Option (List ℕ)) (limits : Limits) (lines : List Line) → IsSo
 fits None limits lines some h = absurd (let clash : false ≡ true = some in cc)
 fits (Some text) limits lines some h = (text, refl, h.0, h.1)
 
-module _ (words : List (List ℕ)) (limits : Limits) (before now : World) (answers : List Answer) (c : Command) (S : State) (is : command_of words ≡ Some c) (can : CanOpen (Some c) limits before.input) (told : IsSome before.input.left)
+module _ (words : List (List ℕ)) (limits : Limits) (before now : World) (answers : List Answer) (c : Command) (S : State) (is : command_of words ≡ Some c) (can : CanOpen (Some c) limits before.input) (told : IsBatch (Some c) → IsSome before.input.left)
     (begins : Begins before.shelf S) (sound : IsSound S) (none : NoneRose before now) where
   script : (o : Option Command) → IsBatch o → CanOpen o limits before.input → (lines : List Line) × IsScript limits before.input lines
   script None batch h = absurd batch
@@ -69,7 +69,7 @@ module _ (words : List (List ℕ)) (limits : Limits) (before now : World) (answe
   the_text : IsBatch (command_of words) → (text : List ℕ) × (before.input.left ≡ Some text) × (length text ≤ limits.script) × ((lines : List Line) × (script_of text ≡ Ok lines))
   the_text batch =
       let s = script (command_of words) batch can_now in
-      let t = fits before.input.left limits s.0 told s.1 in
+      let t = fits before.input.left limits s.0 (told (subst (λ (o : Option Command). IsBatch o) is batch)) s.1 in
       (t.0, t.1, t.2, (s.0, t.3))
 
   no_script_fault : (f : Fault) → IsBatch (command_of words) → IsScriptFault limits before.input now.input f → f ≡ fault.Memory

@@ -12,7 +12,7 @@ use Rattle.vault_types.specs.Bytes.{IsSound}
 use Rattle.vault_types.specs.State.{State}
 use Rattle.script_laws.specs.Leaves.{Begins}
 use Rattle.run_laws.specs.World.{World}
-use Rattle.run_laws.specs.Early.{CanOpen}
+use Rattle.run_laws.specs.Early.{CanOpen, IsBatch}
 use Rattle.run_laws.specs.Run.{NoneRose}
 
 -- the commands that a run makes
@@ -26,9 +26,10 @@ IsBuilt (command.Fill seed versions queue lanes workers) = Unit {0}
 IsBuilt command.Migrate = Unit {0}
 IsBuilt other = ⊥
 
--- over a sound shelf, with an input that is told, where no count of faults rose and the words and the script are in the
--- grammar, there is no fault, or it is a want of memory before the first line
+-- over a sound shelf, where no count of faults rose and the words and the script, whose text is told, are in the grammar,
+-- there is no fault, or it is a want of memory before the first line
 abbrev pub IsCompleteRun : List (List ℕ) → Limits → World → World → List Answer → Option Fault → Type 0
 IsCompleteRun words limits before now answers f =
-    (c : Command) (S : State) → command_of words ≡ Some c → IsBuilt c → CanOpen (Some c) limits before.input → IsSome before.input.left → Begins before.shelf S → IsSound S → NoneRose before now
+    (c : Command) (S : State) → command_of words ≡ Some c → IsBuilt c → CanOpen (Some c) limits before.input → (IsBatch (Some c) → IsSome before.input.left)
+    → Begins before.shelf S → IsSound S → NoneRose before now
     → (f ≡ None) ⊎ ((answers ≡ []) × (f ≡ Some fault.Memory))

@@ -1,15 +1,18 @@
 -- What a crash leaves in a call that was refused.
-use Rattle.std.proofs.Common.{◌≡◌, ◌⊎◌, inl, inr, ℕ, Option, Some, None, refl, subst}
-use Rattle.std.specs.Prelude.{Result, Ok, Err, IfErr}
+use Rattle.std.proofs.Common.{◌≡◌, ◌⊎◌, inl, inr, ℕ, ◌≤◌, Option, Some, None, refl, ◌∙◌, subst, arith}
+use Rattle.std.specs.Prelude.{◌≢◌, Result, Ok, Err, IfErr}
 use Rattle.vault_types.specs.declared.Fault.{Fault}
 use Rattle.vault_types.specs.declared.Fault.TheVariants as fault
-use Rattle.vault_types.specs.Shelf.{Blobs}
-use Rattle.vault_types.specs.Events.{Core, Change, Job, IsNear, after_refused}
+use Rattle.vault_types.specs.declared.Recipe.{Recipe}
+use Rattle.vault_types.specs.State.{KeptVersion, latest_of, version_of}
+use Rattle.vault_types.specs.Shelf.{Blobs, recipe_name}
+use Rattle.vault_types.specs.Events.{Core, Change, Job, IsCore, IsNear, CanCommit, after_refused}
 use Rattle.vault_traits.specs.Crash.{History, LeavesNowIfTold, LeavesOnlyIfTold}
 use Rattle.vault_traits.proofs.Moments.{ends, more, then}
 use Rattle.vault_types.specs.declared.Pending.{Pending}
 use Rattle.vault_traits.specs.Told.{ShelfTold}
 use Rattle.keeper_parts.specs.Parts.{HeldIfTold}
+use Rattle.keeper_parts.proofs.Changing.{latest_low, recipe_same, version_high}
 use Rattle.blob_parts.specs.Causes.{IsStoreFault}
 use Rattle.keeper_catalog.specs.declared.JobInfo.{JobInfo}
 use Rattle.keeper_catalog.specs.View.{View, Keeps}
@@ -80,3 +83,13 @@ pub mending_refused : (u : View) (K : Core) → Keeps u K → (told : ShelfTold)
     → (LeavesNowIfTold u.told.history (IsNear K.state K.other) → LeavesOnlyIfTold u.told.history told.history (IsNear K.state K.other))
     → IsStill u (record { told = told; memo = u.memo; index = u.index; pins = u.pins; job = u.job; pending = waits }) K
 mending_refused u K keeps told waits over held leaves = record { keeps = same_keeps u K keeps told waits over held; any_moment = leaves }
+
+-- no kept recipe is the one that a commit puts
+pub not_next : (K : Core) (j : Job) (r : Recipe) → IsCore K → CanCommit K j r → (s v : ℕ) (k : KeptVersion) → version_of K.state s v ≡ Some k → recipe_name s v ≢ recipe_name r.set r.version
+not_next K j r core can s v k is same =
+    let high = version_high K.state s v k is in
+    let one = latest_low K.state s core.state in
+    let two = latest_low K.state j.set core.state in
+    let e = recipe_same s v r.set r.version (omega (arith, high, one)) (omega (arith, can.version, two)) same in
+    let there : v ≤ latest_of K.state j.set = subst (λ (t : ℕ). v ≤ latest_of K.state t) (e.0 ∙ can.set) high in
+    absurd (omega (arith, there, e.1, can.version))

@@ -12,6 +12,7 @@ ghost use Rattle.restore_pins.specs.Pins.{numbers, without};
 ghost use Rattle.deletion_laws.specs.Deleting.{IsDeleting};
 ghost use Rattle.deletion_laws.specs.Releasing.{IsReleased};
 ghost use Rattle.keeper_parts.specs.Parts.{HeldIfTold};
+ghost use Rattle.keeper_parts.specs.Recipes.{KeepsRecipes};
 ghost use Rattle.keeper_catalog.specs.View.{Keeps};
 ghost use Rattle.keeper_core.specs.Calls.{IsHalf, IsStill, IsDeletionFault};
 
@@ -42,6 +43,10 @@ impl<S: Shelf> Keeper<S> {
         ensures same { (self.new.job ≡ None) × (self.new.pins ≡ self.old.pins) }
         ensures memo { IfErr result (λ f. self.new.memo ≡ self.old.memo) }
         ensures tells { IsSome self.old.told.blobs → IsSome self.new.told.blobs }
+
+        // Each recipe that is kept behind it is as it was.
+        ensures recipes { OnOk result (IsSome self.old.told.blobs → (K : Core) → Keeps self.old K → KeepsRecipes (delete K.state set through) self.old.told.blobs self.new.told.blobs) }
+        ensures all_recipes { OnErr result ((K : Core) → Keeps self.old K → KeepsRecipes K.state self.old.told.blobs self.new.told.blobs) }
 
         // A crash at any moment leaves what it could leave before, or the state before or behind the deletion; at `Ok`
         // only the one behind it, whatever could be left before where a mending was due. No refusal ends a mending.

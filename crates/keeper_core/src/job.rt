@@ -1,9 +1,11 @@
 //! The events of a job, and mending.
-ghost use Rattle.std.specs.Prelude.{◌≡◌, ◌≢◌, ◌<◌, ◌+◌, ◌^◌, ◌⊎◌, ◌++◌, ◌∷◌, [], Some, None, IsSome, IsSomeAnd, IfOk, IfErr, OnOk, OnErr};
-ghost use Rattle.vault_types.specs.Shelf.{recipe_name};
+ghost use Rattle.std.specs.Prelude.{ℕ, ◌≡◌, ◌≢◌, ◌<◌, ◌+◌, ◌^◌, ◌⊎◌, ◌++◌, ◌∷◌, [], Some, None, IsSome, IsSomeAnd, IfOk, IfErr, OnOk, OnErr};
+ghost use Rattle.vault_types.specs.Blobs.{recipe_bytes};
+ghost use Rattle.vault_types.specs.Shelf.{blob_at, recipe_name};
 ghost use Rattle.vault_types.specs.Events.{Core, Job, IsNear, CanCommit, after_begin, after_mend, after_put, after_commit, after_abort, after_refused, committed, commit_change};
 ghost use Rattle.vault_traits.specs.Crash.{LeavesNowIfTold, LeavesOnlyIfTold};
-ghost use Rattle.blob_parts.specs.Causes.{HasCauses, HasStoreFault, IsUndamaged};
+ghost use Rattle.keeper_parts.specs.Recipes.{KeepsRecipes};
+ghost use Rattle.blob_parts.specs.Causes.{Has, HasCauses, HasStoreFault, IsUndamaged};
 ghost use Rattle.commit_laws.specs.Laws.{AreStraysLeft};
 ghost use Rattle.keeper_catalog.specs.View.{Keeps, HasCore};
 ghost use Rattle.keeper_jobs.specs.Jobs.{names_of, version_by};
@@ -51,6 +53,7 @@ impl<S: Shelf> Keeper<S> {
         ensures any_moment { (K : Core) → Keeps self.old K → LeavesNowIfTold self.old.told.history (IsNear K.state K.other)
             → LeavesOnlyIfTold self.old.told.history self.new.told.history (IsNear K.state K.other) }
         ensures acknowledged { IfOk result (λ b. self.old.pending ≢ Pending.Not → (K : Core) → Keeps self.old K → LeavesNowIfTold self.new.told.history (IsNear K.state None)) }
+        ensures recipes { (K : Core) → Keeps self.old K → KeepsRecipes K.state self.old.told.blobs self.new.told.blobs }
         ensures tells { IsSome self.old.told.blobs → IsSome self.new.told.blobs }
         ensures pins { self.new.pins ≡ self.old.pins }
         ensures gets { self.new.told.gets ≡ self.old.told.gets }
@@ -89,6 +92,7 @@ impl<S: Shelf> Keeper<S> {
         ensures strays { (self.new.memo.strays ≡ self.old.memo.strays) ⊎ (self.new.memo.strays ≡ self.old.memo.strays ++ names_of sealed.table.id) }
         ensures due { IfErr result (λ f. IsDue f self.old.job self.old.pending self.new.pending) }
         ensures lent { self.new.index ≡ self.old.index }
+        ensures recipes { (s v : ℕ) → blob_at self.new.told.blobs (recipe_name s v) ≡ blob_at self.old.told.blobs (recipe_name s v) }
         ensures tells { IsSome self.old.told.blobs → IsSome self.new.told.blobs }
         ensures pins { self.new.pins ≡ self.old.pins }
         ensures gets { self.new.told.gets ≡ self.old.told.gets }
@@ -118,6 +122,10 @@ impl<S: Shelf> Keeper<S> {
         requires can { (K : Core) × (j : Job) × Keeps self.old K × CanCommit K j recipe }
         ensures ok { OnOk result ((K : Core) (j : Job) → Keeps self.old K → CanCommit K j recipe → Keeps self.new (after_commit (version_by K j recipe) j self.new.memo.strays K)) }
         ensures err { IfErr result (λ f. (K : Core) (j : Job) → Keeps self.old K → CanCommit K j recipe → IsHalf self.old self.new (commit_change (version_by K j recipe) j recipe K.state) None f K) }
+
+        // The recipe's blob is its spelling, and each recipe that was kept is as it was.
+        ensures spelled { OnOk result ((K : Core) (j : Job) → Keeps self.old K → CanCommit K j recipe → Has self.new.told.blobs (recipe_name recipe.set recipe.version) (Some (recipe_bytes recipe))) }
+        ensures recipes { (K : Core) (j : Job) → Keeps self.old K → CanCommit K j recipe → KeepsRecipes K.state self.old.told.blobs self.new.told.blobs }
 
         // A crash at any moment leaves the state from before or the one after; at `Ok` only the one after.
         ensures any_moment { (K : Core) (j : Job) → Keeps self.old K → CanCommit K j recipe → LeavesNowIfTold self.old.told.history (IsNear K.state None)

@@ -17,9 +17,11 @@ use Rattle.vault_types.specs.Lists.{has}
 use Rattle.vault_types.specs.Blobs.{recipe_bytes}
 use Rattle.vault_types.specs.Tables.{Container, id_of}
 use Rattle.vault_types.specs.State.{next_of}
-use Rattle.vault_types.specs.Shelf.{Blobs, kind_rank, same_name, table_name, payload_name, recipe_name}
+use Rattle.vault_types.specs.Shelf.{Blobs, blob_at, kind_rank, same_name, table_name, payload_name, recipe_name}
 use Rattle.vault_types.specs.Events.{Core, Change, Job, pinned_containers, IsContainerName, IsNeeded, IsCore, CanCommit, Held, committed, commit_change, after_commit, after_refused}
 use Rattle.vault_traits.specs.Shelf.{blobs_with}
+use Rattle.vault_traits.proofs.Maps.{get_is, other_blob}
+use Rattle.blob_parts.specs.Causes.{Has}
 use Rattle.keeper_parts.specs.Parts.{HeldIfTold, CanChange, change, with_strays}
 use Rattle.keeper_parts.proofs.Changing.{told_more, told_same, next_unneeded}
 use Rattle.keeper_parts.proofs.Standing.{held_more}
@@ -223,6 +225,16 @@ module _ (m : Memo) (index : List (Fp × List ℕ)) (info : JobInfo) (r : Recipe
         (subst (λ (q : Name). Contains (m.strays ++ recipe ∷ []) q) recipe_is (Contains-push m.strays recipe))
         (⊎_elim (λ same. inl same) (λ made. inr (made ∙ (λ i. blobs_with b (recipe_is i) (Some (spelled i))))) may)
         (noted_held b held)))
+
+    pub spelled_there : (b after : Option Blobs) → after ≡ blobs_with b recipe (Some bytes) → Has after (recipe_name r.set r.version) (Some (recipe_bytes r))
+    spelled_there b after written = subst (λ (t : Option Blobs). Has t (recipe_name r.set r.version) (Some (recipe_bytes r))) (sym written) (there b)
+      where
+        there : (t : Option Blobs) → Has (blobs_with t recipe (Some bytes)) (recipe_name r.set r.version) (Some (recipe_bytes r))
+        there None = tt
+        there (Some m) = get_is m recipe (Some bytes) (recipe_name r.set r.version) pushed_is ∙ ap (λ (x : List ℕ). Some x) spelled
+
+    pub others_stay : (b after : Option Blobs) → (after ≡ b) ⊎ (after ≡ blobs_with b recipe (Some bytes)) → (q : Name) → q ≢ recipe_name r.set r.version → blob_at after q ≡ blob_at b q
+    others_stay b after may q apart = other_blob {before = b} {after = after} {past = None} {now = None} {name = recipe} {bytes = Some bytes} (record { blobs = may; history = inl refl }) q (λ same. apart (same ∙ sym pushed_is))
 
   pub before_held : (strays : List Name) (waits : Pending) → strays ≡ m.strays → (b after : Option Blobs) → after ≡ b → HeldIfTold b K → HeldIfTold after (after_refused None None strays waits K)
   before_held strays waits are b after same held = told_same (λ n. Held n (after_refused None None strays waits K)) b after same

@@ -1,14 +1,17 @@
 //! The commit of a recipe.
-ghost use Rattle.std.specs.Prelude.{◌≡◌, ◌≤◌, ◌<◌, ◌-◌, ◌++◌, ◌&&◌, ◌∷◌, [], ℕ, List, nat_le, nat_lt, length, if◌then◌else◌, Err, OnOk, OnErr, IsSome, Some, None, map};
+ghost use Rattle.std.specs.Prelude.{◌≡◌, ◌≢◌, ◌≤◌, ◌<◌, ◌-◌, ◌++◌, ◌&&◌, ◌∷◌, [], ℕ, List, nat_le, nat_lt, length, if◌then◌else◌, Err, OnOk, OnErr, IsSome, Some, None, map};
 ghost use Rattle.std.specs.List.{AllByRecursion};
 ghost use Rattle.vault_types.specs.declared.Table.{Table as TableOf};
-ghost use Rattle.vault_types.specs.Shelf.{recipe_name};
+ghost use Rattle.vault_types.specs.declared.Name.{Name as Named};
+ghost use Rattle.vault_types.specs.Blobs.{recipe_bytes};
+ghost use Rattle.vault_types.specs.Shelf.{blob_at, recipe_name};
 ghost use Rattle.vault_types.specs.Events.{Core, Job, IsNear, after_commit, after_refused, committed, commit_change};
 ghost use Rattle.vault_types.specs.declared.Pending.{Pending as Pendings};
 ghost use Rattle.vault_types.specs.declared.Pending.TheVariants as pending;
 ghost use Rattle.fp_index.specs.Index.{IsIndexOf};
 ghost use Rattle.vault_traits.specs.Counts.{Rose};
 ghost use Rattle.vault_traits.specs.Crash.{LeavesNowIfTold, LeavesOnlyIfTold};
+ghost use Rattle.blob_parts.specs.Causes.{Has};
 ghost use Rattle.commit_laws.specs.Laws.{AreStraysLeft};
 ghost use Rattle.keeper_parts.specs.Parts.{HeldIfTold};
 ghost use Rattle.keeper_catalog.specs.Catalog.{memo_of, table_at, IsMemoOf, HasRoom};
@@ -53,6 +56,10 @@ pub fn commit_recipe<S: Shelf>(
     ensures index { OnOk result ((K : Core) (j : Job) → Commits (memo_of catalog.old) index.old job recipe K j → IsIndexOf index.new (map (λ c. c.table) (committed (version_by K j recipe) j K.state).containers)) }
     ensures held { OnOk result ((K : Core) (j : Job) → Commits (memo_of catalog.old) index.old job recipe K j → HeldIfTold (S.told shelf.old).blobs K
         → HeldIfTold (S.told shelf.new).blobs (after_commit (version_by K j recipe) j catalog.new.strays.items K)) }
+
+    // The recipe's blob is its spelling, and no other blob changes.
+    ensures spelled { OnOk result ((K : Core) (j : Job) → Commits (memo_of catalog.old) index.old job recipe K j → Has (S.told shelf.new).blobs (recipe_name recipe.set recipe.version) (Some (recipe_bytes recipe))) }
+    ensures others { (K : Core) (j : Job) → Commits (memo_of catalog.old) index.old job recipe K j → (q : Named) → q ≢ recipe_name recipe.set recipe.version → blob_at (S.told shelf.new).blobs q ≡ blob_at (S.told shelf.old).blobs q }
 
     // A refusal leaves the state, and the job is over.
     ensures still { OnErr result ((K : Core) (j : Job) (waits : Pendings) → Commits (memo_of catalog.old) index.old job recipe K j → IsMemoOf (memo_of catalog.new) (after_refused None None catalog.new.strays.items waits K)) }

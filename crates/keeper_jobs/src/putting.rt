@@ -1,6 +1,6 @@
 //! The put of a job's next container.
 ghost use Rattle.std.specs.Prelude.{◌≡◌, ◌<◌, ◌≤◌, ◌⊎◌, ◌+◌, ◌^◌, ◌++◌, ℕ, false, nat_eq, if◌then◌else◌, OnOk, OnErr, IfSome, IsSome, Some, None, length};
-ghost use Rattle.vault_types.specs.Shelf.{HasContainer};
+ghost use Rattle.vault_types.specs.Shelf.{HasContainer, blob_at, recipe_name};
 ghost use Rattle.vault_types.specs.Events.{Core, IsNear};
 ghost use Rattle.vault_traits.specs.Crash.{LeavesNowIfTold, LeavesOnlyIfTold};
 ghost use Rattle.blob_parts.specs.Causes.{HasCauses, IsUndamaged};
@@ -71,6 +71,7 @@ pub fn put_sealed<S: Shelf>(
     ensures room { HasRoom (memo_of catalog.new) }
     ensures there { OnOk result (IfSome (S.told shelf.new).blobs (λ m. HasContainer m sealed)) }
     ensures tells { IsSome (S.told shelf.old).blobs → IsSome (S.told shelf.new).blobs }
+    ensures recipes { (s v : ℕ) → blob_at (S.told shelf.new).blobs (recipe_name s v) ≡ blob_at (S.told shelf.old).blobs (recipe_name s v) }
     ensures held { (K : Core) → Puts K catalog.old.strays.items sealed.table.id → HeldIfTold (S.told shelf.old).blobs K → HeldIfTold (S.told shelf.new).blobs (with_strays catalog.new.strays.items K) }
 
     // A crash at any moment leaves what it could leave before.

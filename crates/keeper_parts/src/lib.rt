@@ -25,6 +25,7 @@ use vault_types::{Fault, Name, Set, Version};
 pub fn put_container<S: Shelf>(alloc: Global, shelf: &mut S, sealed: &Sealed) -> Result<(), Fault>
     ensures there { OnOk result (IfSome (S.told shelf.new).blobs (λ m. HasContainer m sealed.now)) }
     ensures tells { IsSome (S.told shelf.old).blobs → IsSome (S.told shelf.new).blobs }
+    ensures others { (q : Named) → q ≢ payload_name sealed.now.table.id → q ≢ table_name sealed.now.table.id → blob_at (S.told shelf.new).blobs q ≡ blob_at (S.told shelf.old).blobs q }
     ensures held { (K : Core) → IsSpare K (payload_name sealed.now.table.id) sealed.now.payload → IsSpare K (table_name sealed.now.table.id) (Some (table_bytes sealed.now.table))
         → HeldIfTold (S.told shelf.old).blobs K → HeldIfTold (S.told shelf.new).blobs K }
 

@@ -1,21 +1,25 @@
 -- What the shelf holds, and what a crash leaves, behind a deletion and the removal of what goes with it.
-use Rattle.std.proofs.Common.{◌≡◌, inr, ℕ, ◌<◌, ◌≤◌, ◌+◌, map, length, Bool, false, cond, not, List, [], ◌∷◌, drop, Option, Some, None, max, refl, sym, ◌∙◌, ap, subst, arith}
+use Rattle.std.proofs.Common.{◌≡◌, ◌⊎◌, inl, inr, ℕ, ◌<◌, ◌≤◌, ◌+◌, map, length, Bool, false, cond, not, List, [], ◌∷◌, drop, Option, Some, None, max, refl, sym, ◌∙◌, ap, subst, arith}
 use Rattle.std.specs.Prelude.{Contains, IsSome, OnErr, Result, Ok, Err, slice_index_or, filter}
 use Rattle.vault_types.specs.declared.Fp.{Fp}
 use Rattle.vault_types.specs.declared.Name.{Name}
 use Rattle.vault_types.specs.declared.Pending.TheVariants.{Not}
 use Rattle.vault_types.specs.Lists.{has}
-use Rattle.vault_types.specs.State.{State, named, floor_of}
+use Rattle.vault_types.specs.State.{State, KeptVersion, named, floor_of, version_of}
 use Rattle.vault_types.specs.Blobs.{floor_bytes}
 use Rattle.vault_types.specs.Delete.{delete, reclaimed_ids}
-use Rattle.vault_types.specs.Shelf.{Blobs, floor_name}
+use Rattle.vault_types.specs.Shelf.{Blobs, blob_at, floor_name, recipe_name}
 use Rattle.vault_types.specs.Events.{Core, IsNear, after_delete, delete_change}
 use Rattle.vault_traits.specs.Crash.{History, LeavesNowIfTold, LeavesOnlyIfTold}
 use Rattle.vault_traits.specs.Shelf.{blobs_with}
+use Rattle.vault_traits.proofs.Maps.{other_blob}
 use Rattle.vault_traits.proofs.Moments.{then, more}
 use Rattle.fp_index.specs.Index.{IsIndexOf}
 use Rattle.restore_pins.specs.Pins.{Listed}
 use Rattle.keeper_parts.specs.Parts.{HeldIfTold, change}
+use Rattle.keeper_parts.proofs.Changing.{recipe_no_floor}
+use Rattle.keeper_parts.proofs.Standing.{needs_recipe}
+use Rattle.keeper_parts.proofs.Telling.{tells_with}
 use Rattle.keeper_catalog.specs.declared.SetInfo.{SetInfo}
 use Rattle.keeper_catalog.specs.Catalog.{Memo, IsMemoOf}
 use Rattle.deletion_laws.specs.Deleting.{IsDeleting, AreStraysAfter}
@@ -90,3 +94,16 @@ module _ (m : Memo) (index : List (Fp × List ℕ)) (pins : List Listed) (K : Co
 pub floor_half : (K : Core) (s n floor : ℕ) → floor ≡ max (floor_of K.state s) (n + 1) → (past now : Option History) → LeavesOnlyIfTold past now (IsNear K.state (Some (change (floor_name s) (floor_bytes s floor) (delete K.state s n))))
     → LeavesOnlyIfTold past now (IsNear K.state (Some (delete_change s n K.state)))
 floor_half K s n floor is past now leaves = subst (λ (f : ℕ). LeavesOnlyIfTold past now (IsNear K.state (Some (change (floor_name s) (floor_bytes s f) (delete K.state s n))))) is leaves
+
+-- no recipe that the state keeps is among names that may go
+pub recipe_apart : (K : Core) (names : List Name) → AreIdle K names → (s v : ℕ) (k : KeptVersion) → s < length K.state.datasets → version_of K.state s v ≡ Some k → Contains names (recipe_name s v) → ⊥
+recipe_apart K names idle s v k below is there = (idle (recipe_name s v) there).0.free.unneeded (needs_recipe K.state [] s v k below is)
+
+-- a floor's write leaves each recipe, and a shelf that tells its blobs goes on
+module _ (before after : Option Blobs) (s floor : ℕ) where
+  pub floor_leaves : (after ≡ before) ⊎ (after ≡ blobs_with before (floor_name s) (Some (floor_bytes s floor))) → (t v : ℕ) → blob_at after (recipe_name t v) ≡ blob_at before (recipe_name t v)
+  floor_leaves may t v =
+      other_blob {before = before} {after = after} {past = None} {now = None} {name = floor_name s} {bytes = Some (floor_bytes s floor)} (record { blobs = may; history = inl refl }) (recipe_name t v) (recipe_no_floor t v s)
+
+  pub floor_tells : after ≡ blobs_with before (floor_name s) (Some (floor_bytes s floor)) → IsSome before → IsSome after
+  floor_tells is tells = subst (λ (o : Option Blobs). IsSome o) (sym is) (tells_with before (floor_name s) (Some (floor_bytes s floor)) tells)

@@ -6,7 +6,7 @@ ghost use Rattle.vault_types.specs.declared.Pending.TheVariants as pending;
 ghost use Rattle.vault_types.specs.Lists.{has};
 ghost use Rattle.vault_types.specs.Marks.{Mark, marks_above, freed_ids};
 ghost use Rattle.vault_types.specs.State.{empty_dataset};
-ghost use Rattle.vault_types.specs.Shelf.{recipe_name};
+ghost use Rattle.vault_types.specs.Shelf.{blob_at, recipe_name};
 ghost use Rattle.vault_types.specs.Delete.{delete, reclaimed_ids};
 ghost use Rattle.vault_types.specs.Events.{Core, IsNear, after_delete, after_refused, delete_change};
 ghost use Rattle.vault_traits.specs.Crash.{LeavesNowIfTold, LeavesOnlyIfTold};
@@ -15,6 +15,7 @@ ghost use Rattle.fp_index.specs.Index.{IsIndexOf, without_id};
 ghost use Rattle.set_markers.specs.SetMarkers.{AreMarkersOfSets};
 ghost use Rattle.restore_pins.specs.Pins.{listed_ids};
 ghost use Rattle.keeper_parts.specs.Parts.{HeldIfTold};
+ghost use Rattle.keeper_parts.specs.Recipes.{KeepsRecipes};
 ghost use Rattle.keeper_catalog.specs.Catalog.{memo_of, set_info, IsMemoOf, HasRoom};
 ghost use Rattle.deletion_laws.specs.Deleting.{IsDeleting, IsGone, AreStraysAfter, without_ids};
 ghost use Rattle.keeper_removals.specs.Removals.{Removing, Rises, Leaves, LeavesRecipes, IsTableIn, IsKnown};
@@ -170,6 +171,11 @@ pub fn delete_versions<S: Shelf>(
     ensures as_before { OnErr result ((memo_of catalog.new ≡ memo_of catalog.old) × (index.new ≡ index.old)) }
     ensures half { OnErr result ((K : Core) → Removing (memo_of catalog.old) index.old pins.now K set through → HeldIfTold (S.told shelf.old).blobs K
         → HeldIfTold (S.told shelf.new).blobs (after_refused (Some (delete_change set through K.state)) None K.strays (pending.FailedFor set) K)) }
+
+    // Each recipe that is kept behind it is as it was; a refusal leaves all.
+    ensures recipes { OnOk result (IsSome (S.told shelf.old).blobs → (K : Core) → Removing (memo_of catalog.old) index.old pins.now K set through → HeldIfTold (S.told shelf.old).blobs K
+        → KeepsRecipes (delete K.state set through) (S.told shelf.old).blobs (S.told shelf.new).blobs) }
+    ensures all_recipes { OnErr result ((s v : ℕ) → blob_at (S.told shelf.new).blobs (recipe_name s v) ≡ blob_at (S.told shelf.old).blobs (recipe_name s v)) }
 
     // A crash at any moment leaves the state from before or the one after: at `Ok` only the one after, and in a refused
     // deletion only the one from before or the floor that was tried.

@@ -1,7 +1,7 @@
 use Rattle.std.proofs.Common.{◌≡◌, ◌∙◌, ap, Some, ℕ, List}
 use Rattle.vault_types.specs.Events.{Held, IsNear}
 use Rattle.keeper_parts.proofs.Standing.{put_there, put_held, put_moment}
-use Rattle.keeper_parts.proofs.Telling.{tells_in_turn}
+use Rattle.keeper_parts.proofs.Telling.{tells_in_turn, other_in_turn}
 use Rattle.keeper_parts.proofs.put_container.Goals as goal
 
 pub returns-clause-there : goal.returns-clause-there
@@ -15,3 +15,6 @@ returns-clause-any_moment g c K one two here = put_moment _ _ (c.payload-payload
 
 pub returns-clause-tells : goal.returns-clause-tells
 returns-clause-tells g c tells = tells_in_turn _ _ _ _ _ _ _ _ c.put.ensures.at_most tells
+
+pub returns-clause-others : goal.returns-clause-others
+returns-clause-others g c q one two = other_in_turn _ _ _ _ _ _ _ _ c.put.ensures.at_most q one two

@@ -1,9 +1,9 @@
-use Rattle.std.proofs.Common.{ℕ, ◌-◌, ◌&&◌, length, take, map, List, [], ◌∷◌, ◌++◌, Some, None, refl, sym, ◌∙◌, ap, subst, arith}
+use Rattle.std.proofs.Common.{inl, inr, ℕ, ◌-◌, ◌&&◌, length, take, map, List, [], ◌∷◌, ◌++◌, Some, None, refl, sym, ◌∙◌, ap, subst, arith, Option}
 use Rattle.std.specs.Prelude.{Err, nat_le, nat_lt, if◌then◌else◌, slice_index_or, slice_set}
 use Rattle.vault_types.specs.declared.Name.{Name}
 use Rattle.vault_types.specs.declared.Table.{Table}
 use Rattle.vault_types.specs.Tables.{Container}
-use Rattle.vault_types.specs.Shelf.{recipe_name}
+use Rattle.vault_types.specs.Shelf.{Blobs, blob_at, recipe_name}
 use Rattle.vault_types.specs.State.{empty_dataset}
 use Rattle.vault_types.specs.Marks.{Mark}
 use Rattle.vault_types.specs.Events.{Core, Change, Job, IsNear, committed}
@@ -15,7 +15,7 @@ use Rattle.keeper_catalog.specs.Catalog.{set_info, table_at, versions_in}
 use Rattle.keeper_jobs.specs.Jobs.{tables_from, AreKeyed, uncommitted, version_by}
 use Rattle.keeper_jobs.proofs.Commits.{keyed, known_below, index_more, still_memo, done_memo, latest_is, in_range}
 use Rattle.keeper_jobs.proofs.Rooms.{one_version, one_goes, more_ids}
-use Rattle.keeper_jobs.proofs.Written.{recipe_goes, pushed_is, change_here, can_here, done_held, half_held, before_held, left_of, popped}
+use Rattle.keeper_jobs.proofs.Written.{recipe_goes, pushed_is, change_here, can_here, done_held, half_held, before_held, spelled_there, others_stay, left_of, popped}
 use Rattle.keeper_jobs.proofs.committing.commit_recipe.Goals as goal
 
 pub prepare-requires-clause-keyed : goal.prepare-requires-clause-keyed
@@ -153,3 +153,15 @@ returns-clause-any_moment g c K j cm held here =
     let spelled = c.deref.ensures.value ∙ c.in-Ok.ensures.blob in
     subst (λ (h : Change). LeavesOnlyIfTold (g.S.Shelf.told c.args.shelf.now).history (g.S.Shelf.told c.commit.new.shelf).history (IsNear K.state (Some h))) (sym (change_here _ _ _ _ K j cm c.deref.result.now spelled))
     (c.commit.ensures.any_moment K.state (committed (version_by K j c.args.recipe) j K.state) (can_here _ _ _ _ K j cm c.deref.result.now spelled _ held) here)
+
+pub returns-in-Ok-commit-clause-spelled : goal.returns-in-Ok-commit-clause-spelled
+returns-in-Ok-commit-clause-spelled g c K j cm = spelled_there _ _ _ _ K j cm c.deref.result.now (c.deref.ensures.value ∙ c.in-Ok.ensures.blob) _ _ c.in-Ok-commit.ensures.ok
+
+pub returns-in-Ok-commit-clause-others : goal.returns-in-Ok-commit-clause-others
+returns-in-Ok-commit-clause-others g c K j cm q apart = others_stay _ _ _ _ K j cm c.deref.result.now (c.deref.ensures.value ∙ c.in-Ok.ensures.blob) _ _ (inr c.in-Ok-commit.ensures.ok) q apart
+
+pub returns-in-Err-Before-clause-others : goal.returns-in-Err-Before-clause-others
+returns-in-Err-Before-clause-others g c K j cm q apart = ap (λ (t : Option Blobs). blob_at t q) (c.in-Err-Before.ensures.before c.in-Err-Before.refused (ap Err c.in-Err-Before.field-0-is))
+
+pub returns-clause-others : goal.returns-clause-others
+returns-clause-others g c K j cm q apart = others_stay _ _ _ _ K j cm c.deref.result.now (c.deref.ensures.value ∙ c.in-Ok.ensures.blob) _ _ (c.in-Err-Half.ensures.half (ap Err c.in-Err-Half.field-0-is)) q apart

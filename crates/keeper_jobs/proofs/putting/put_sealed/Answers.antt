@@ -2,6 +2,7 @@ use Rattle.std.proofs.Common.{⊎_elim, List, ◌++◌, sym, ◌∙◌, ap, subs
 use Rattle.vault_types.specs.declared.Name.{Name}
 use Rattle.vault_types.specs.declared.Table.{Table}
 use Rattle.keeper_parts.specs.Parts.{HeldIfTold, with_strays}
+use Rattle.keeper_parts.proofs.Changing.{recipe_no_table, recipe_no_payload}
 use Rattle.keeper_jobs.specs.Jobs.{names_of}
 use Rattle.keeper_jobs.proofs.NewNames.{same_held, more_held, spare_payload, spare_table}
 use Rattle.keeper_jobs.proofs.putting.put_sealed.Goals as goal
@@ -27,3 +28,9 @@ returns-in-Err-clause-held g c K puts held = subst (λ (l : List Name). HeldIfTo
 pub returns-in-Err-clause-any_moment : goal.returns-in-Err-clause-any_moment
 returns-in-Err-clause-any_moment g c K puts here =
     c.put_container.ensures.any_moment (with_strays (c.args.catalog.now.strays.items ++ names_of c.args.sealed.table.id) K) (spare_payload K _ _ puts _) (spare_table K _ _ puts _) here
+
+pub returns-in-Ok-clause-recipes : goal.returns-in-Ok-clause-recipes
+returns-in-Ok-clause-recipes g c s v = c.put_container.ensures.others _ (recipe_no_payload s v _) (recipe_no_table s v _)
+
+pub returns-in-Err-clause-recipes : goal.returns-in-Err-clause-recipes
+returns-in-Err-clause-recipes g c s v = c.put_container.ensures.others _ (recipe_no_payload s v _) (recipe_no_table s v _)

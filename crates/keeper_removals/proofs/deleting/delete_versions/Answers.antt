@@ -1,4 +1,4 @@
-use Rattle.std.proofs.Common.{⊎_elim, ◌+◌, inl, inr, refl, sym, subst, Some, None}
+use Rattle.std.proofs.Common.{⊎_elim, ◌+◌, inl, inr, refl, sym, ◌∙◌, subst, Some, None}
 use Rattle.std.specs.Prelude.{Contains}
 use Rattle.vault_types.specs.Delete.{delete}
 use Rattle.vault_types.specs.declared.Pending.TheVariants.{FailedFor}
@@ -10,7 +10,7 @@ use Rattle.vault_traits.specs.Crash.{LeavesNowIfTold, LeavesOnlyIfTold}
 use Rattle.vault_traits.proofs.Moments.{ends}
 use Rattle.deletion_laws.proofs.Steps.{told_half, near_deleting, changes, told_stands}
 use Rattle.keeper_removals.proofs.Deleted.{floor_is}
-use Rattle.keeper_removals.proofs.Cleaned.{always, rises, stays_even, even_removed, even_index, even_memo, even_held, even_idle, even_now, only_deleted, risen_held, risen_idle, then_deleted, floor_half}
+use Rattle.keeper_removals.proofs.Cleaned.{always, rises, stays_even, even_removed, even_index, even_memo, even_held, even_idle, even_now, only_deleted, risen_held, risen_idle, then_deleted, floor_half, recipe_apart, floor_leaves, floor_tells}
 use Rattle.keeper_removals.proofs.deleting.delete_versions.Goals as goal
 
 pub returns-then-floor-index-clause-removed : goal.returns-then-floor-index-clause-removed
@@ -109,3 +109,20 @@ returns-clause-within g c K r n there =
     let up = rises _ _ _ K _ _ r c.index.result.now (c.args.through + 1) c.index.ensures refl c.if-floor-index.false in
     ⊎_elim (λ old. inl (subst (λ l. Contains l n) (sym r.memo.strays) old)) (λ goes. inr goes)
     ((c.forget_versions-count.ensures.strays K c.args.through r up).only n (c.clean_from-2.ensures.within n there))
+
+pub returns-then-floor-index-clause-recipes : goal.returns-then-floor-index-clause-recipes
+returns-then-floor-index-clause-recipes g c tells K r held s v k below is =
+    let even = stays_even _ _ _ K _ _ r c.index.result.now c.index.ensures c.if-floor-index.true in
+    c.clean_from.ensures.others _ (recipe_apart (after_delete c.args.set c.args.through c.args.catalog.now.strays.items K) _ (even_idle _ _ _ K _ _ r even _ held tells) s v k below is)
+
+pub returns-in_err-raise_floor-clause-all_recipes : goal.returns-in_err-raise_floor-clause-all_recipes
+returns-in_err-raise_floor-clause-all_recipes g c = always c.from_residual.result _ (floor_leaves _ _ _ _ c.raise_floor.ensures.at_most)
+
+pub returns-clause-recipes : goal.returns-clause-recipes
+returns-clause-recipes g c tells K r held s v k below is =
+    let up = rises _ _ _ K _ _ r c.index.result.now (c.args.through + 1) c.index.ensures refl c.if-floor-index.false in
+    let are = c.forget_versions-count.ensures.strays K c.args.through r up in
+    c.clean_from-2.ensures.others _
+    (recipe_apart (after_delete c.args.set c.args.through c.forget_versions-count.new.catalog.strays.items K) _
+    (risen_idle _ _ _ K _ _ r (c.args.through + 1) refl up _ are _ _ c.in_ok-raise_floor.ensures.ok held (floor_tells _ _ _ _ c.in_ok-raise_floor.ensures.ok tells)) s v k below is)
+    ∙ floor_leaves _ _ _ _ (inr c.in_ok-raise_floor.ensures.ok) s v

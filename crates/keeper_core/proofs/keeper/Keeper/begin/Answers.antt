@@ -1,4 +1,4 @@
-use Rattle.std.proofs.Common.{◌+◌, ℕ, List, refl, sym, subst, ap, ◌∙◌, arith, map, length}
+use Rattle.std.proofs.Common.{◌≡◌, ◌+◌, ℕ, List, refl, sym, subst, ap, ◌∙◌, arith, map, length}
 use Rattle.std.specs.Prelude.{fold, max, IsSome}
 use Rattle.vault_types.specs.Events.{after_begin}
 use Rattle.vault_types.specs.declared.Fp.{Fp}
@@ -8,7 +8,8 @@ use Rattle.keeper_catalog.specs.declared.SetInfo.{SetInfo}
 use Rattle.keeper_catalog.specs.View.{View, Keeps}
 use Rattle.keeper_jobs.specs.Jobs.{Sees}
 use Rattle.keeper_jobs.proofs.Seeing.{info_is}
-use Rattle.keeper_parts.proofs.Changing.{latest_low}
+use Rattle.vault_types.specs.Shelf.{blob_at, recipe_name}
+use Rattle.keeper_parts.proofs.Changing.{latest_low, version_high}
 use Rattle.keeper_core.proofs.Keeping.{sees_of, begun, sets_count, next_is}
 use Rattle.keeper_core.proofs.keeper.Keeper.begin.Goals as goal
 
@@ -67,3 +68,18 @@ returns-clause-tells g c told = c.mend_for.ensures.tells (subst (λ (v : View). 
 
 pub returns-clause-pins : goal.returns-clause-pins
 returns-clause-pins g c = ap (λ (v : View). v.pins) c.self.view_is
+
+pub returns-in_err-sparse-clause-recipes : goal.returns-in_err-sparse-clause-recipes
+returns-in_err-sparse-clause-recipes g c K keeps s n j below is = refl
+
+pub returns-in_err-mend_for-clause-recipes : goal.returns-in_err-mend_for-clause-recipes
+returns-in_err-mend_for-clause-recipes g c K keeps s n j below is =
+    let k = subst (λ (v : View). Keeps v K) (sym c.self.view_is) keeps in
+    let sees = subst (λ (l : List SetInfo). Sees l c.self.inside.pending K) (sym c.deref.ensures.value) (sees_of _ K k) in
+    c.mend_for.ensures.recipes K sees s n (version_high K.state s n j is) ∙ ap (λ (v : View). blob_at v.told.blobs (recipe_name s n)) c.self.view_is
+
+pub returns-clause-recipes : goal.returns-clause-recipes
+returns-clause-recipes g c K keeps s n j below is =
+    let k = subst (λ (v : View). Keeps v K) (sym c.self.view_is) keeps in
+    let sees = subst (λ (l : List SetInfo). Sees l c.self.inside.pending K) (sym c.deref.ensures.value) (sees_of _ K k) in
+    c.mend_for.ensures.recipes K sees s n (version_high K.state s n j is) ∙ ap (λ (v : View). blob_at v.told.blobs (recipe_name s n)) c.self.view_is

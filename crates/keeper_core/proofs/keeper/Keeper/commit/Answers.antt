@@ -1,6 +1,6 @@
 use Rattle.std.proofs.Common.{[], ◌∷◌, ◌++◌, inl, inr, Some, None, refl, sym, subst, ap, ◌∙◌}
 use Rattle.std.specs.Prelude.{IsSome, Err}
-use Rattle.vault_types.specs.Shelf.{recipe_name}
+use Rattle.vault_types.specs.Shelf.{blob_at, recipe_name}
 use Rattle.vault_types.specs.Events.{Core, Job, IsNear, commit_change}
 use Rattle.commit_laws.specs.Laws.{AreStraysLeft}
 use Rattle.vault_traits.specs.Crash.{LeavesNowIfTold, LeavesOnlyIfTold}
@@ -9,7 +9,7 @@ use Rattle.keeper_catalog.specs.View.{View, Keeps}
 use Rattle.keeper_jobs.specs.Jobs.{version_by}
 use Rattle.keeper_core.specs.Stands.{job_of}
 use Rattle.keeper_core.proofs.Keeping.{commits_of, commit_done, commit_still, commit_halved}
-use Rattle.keeper_core.proofs.Refusing.{commit_untried, commit_tried}
+use Rattle.keeper_core.proofs.Refusing.{commit_untried, commit_tried, not_next}
 use Rattle.keeper_core.proofs.keeper.Keeper.commit.Goals as goal
 
 pub invariant_of-self : goal.invariant_of-self
@@ -133,3 +133,32 @@ returns-in-Ok-clause-left g c K j keeps fits =
     let job = ap job_of c.in-Lent.is in
     let cm = commits_of _ K k c.in-Lent.job job j c.args.recipe fits c.args.index (c.requires.lent ∙ ap (λ (v : View). v.index) (sym c.self.view_is)) in
     subst (λ (v : View). AreStraysLeft v.memo.strays (recipe_name j.set c.args.recipe.version) j.containers c.commit_recipe.new.catalog.strays.items) c.self.view_is (c.in-Ok.ensures.left K j cm)
+
+pub returns-in-Ok-clause-recipes : goal.returns-in-Ok-clause-recipes
+returns-in-Ok-clause-recipes g c K j keeps fits s n i below is =
+    let k = subst (λ (v : View). Keeps v K) (sym c.self.view_is) keeps in
+    let cm = commits_of _ K k c.in-Lent.job (ap job_of c.in-Lent.is) j c.args.recipe fits c.args.index (c.requires.lent ∙ ap (λ (v : View). v.index) (sym c.self.view_is)) in
+    c.commit_recipe.ensures.others K j cm (recipe_name s n) (not_next K j c.args.recipe k.core fits s n i is) ∙ ap (λ (v : View). blob_at v.told.blobs (recipe_name s n)) c.self.view_is
+
+pub returns-in-Err-Before-Memory-clause-recipes : goal.returns-in-Err-Before-Memory-clause-recipes
+returns-in-Err-Before-Memory-clause-recipes g c K j keeps fits s n i below is =
+    let k = subst (λ (v : View). Keeps v K) (sym c.self.view_is) keeps in
+    let cm = commits_of _ K k c.in-Lent.job (ap job_of c.in-Lent.is) j c.args.recipe fits c.args.index (c.requires.lent ∙ ap (λ (v : View). v.index) (sym c.self.view_is)) in
+    c.commit_recipe.ensures.others K j cm (recipe_name s n) (not_next K j c.args.recipe k.core fits s n i is) ∙ ap (λ (v : View). blob_at v.told.blobs (recipe_name s n)) c.self.view_is
+
+pub returns-in-Err-Before-Failed-clause-recipes : goal.returns-in-Err-Before-Failed-clause-recipes
+returns-in-Err-Before-Failed-clause-recipes g c K j keeps fits s n i below is =
+    let k = subst (λ (v : View). Keeps v K) (sym c.self.view_is) keeps in
+    let cm = commits_of _ K k c.in-Lent.job (ap job_of c.in-Lent.is) j c.args.recipe fits c.args.index (c.requires.lent ∙ ap (λ (v : View). v.index) (sym c.self.view_is)) in
+    c.commit_recipe.ensures.others K j cm (recipe_name s n) (not_next K j c.args.recipe k.core fits s n i is) ∙ ap (λ (v : View). blob_at v.told.blobs (recipe_name s n)) c.self.view_is
+
+pub returns-in-Err-Half-clause-recipes : goal.returns-in-Err-Half-clause-recipes
+returns-in-Err-Half-clause-recipes g c K j keeps fits s n i below is =
+    let k = subst (λ (v : View). Keeps v K) (sym c.self.view_is) keeps in
+    let cm = commits_of _ K k c.in-Lent.job (ap job_of c.in-Lent.is) j c.args.recipe fits c.args.index (c.requires.lent ∙ ap (λ (v : View). v.index) (sym c.self.view_is)) in
+    c.commit_recipe.ensures.others K j cm (recipe_name s n) (not_next K j c.args.recipe k.core fits s n i is) ∙ ap (λ (v : View). blob_at v.told.blobs (recipe_name s n)) c.self.view_is
+
+pub returns-in-Ok-clause-spelled : goal.returns-in-Ok-clause-spelled
+returns-in-Ok-clause-spelled g c K j keeps fits =
+    let k = subst (λ (v : View). Keeps v K) (sym c.self.view_is) keeps in
+    c.in-Ok.ensures.spelled K j (commits_of _ K k c.in-Lent.job (ap job_of c.in-Lent.is) j c.args.recipe fits c.args.index (c.requires.lent ∙ ap (λ (v : View). v.index) (sym c.self.view_is)))

@@ -3,7 +3,7 @@ use Rattle.std.specs.Prelude.{IsSome}
 use Rattle.vault_types.specs.declared.Pending.TheVariants.{Not}
 use Rattle.vault_types.specs.State.{latest_of}
 use Rattle.vault_types.specs.declared.Answer.TheVariants.{Removed}
-use Rattle.vault_types.specs.Shelf.{Blobs}
+use Rattle.vault_types.specs.Shelf.{Blobs, blob_at, recipe_name}
 use Rattle.vault_types.specs.Events.{Core, IsNear, after_mend, delete_change}
 use Rattle.vault_traits.specs.Crash.{LeavesNowIfTold, LeavesOnlyIfTold}
 use Rattle.vault_traits.proofs.Moments.{stays, then, more}
@@ -13,6 +13,10 @@ use Rattle.keeper_catalog.specs.View.{View, Keeps}
 use Rattle.keeper_jobs.specs.Jobs.{Sees}
 use Rattle.keeper_jobs.proofs.Seeing.{alone, not_failed}
 use Rattle.keeper_catalog.specs.Catalog.{memo_of}
+use Rattle.keeper_parts.specs.Recipes.{KeepsRecipes}
+use Rattle.keeper_parts.proofs.Changing.{version_high}
+use Rattle.deletion_laws.proofs.Shrinking as shrinking
+use Rattle.keeper_removals.proofs.Cleaned.{always}
 use Rattle.keeper_core.specs.Stands.{index_of, job_of}
 use Rattle.keeper_core.specs.Calls.{IsStill}
 use Rattle.keeper_core.proofs.Keeping.{sees_of, mended, sets_count}
@@ -215,3 +219,36 @@ returns-in-Err-clause-memo g c = c.in-Err.ensures.as_before.0 ∙ ap (λ (v : Vi
 
 pub returns-in-Err-clause-tells : goal.returns-in-Err-clause-tells
 returns-in-Err-clause-tells g c told = c.delete_versions.ensures.tells (c.mend_for.ensures.tells (subst (λ (v : View). IsSome v.told.blobs) (sym c.self.view_is) told))
+
+pub returns-then-through-latest-clause-all_recipes : goal.returns-then-through-latest-clause-all_recipes
+returns-then-through-latest-clause-all_recipes g c K keeps s n j in_range is = refl
+
+pub returns-in_err-mend_for-clause-all_recipes : goal.returns-in_err-mend_for-clause-all_recipes
+returns-in_err-mend_for-clause-all_recipes g c =
+    let kept : (K : Core) → Keeps c.args.self.now K → KeepsRecipes K.state c.args.self.now.told.blobs (g.S.Shelf.told c.mend_for.new.shelf).blobs = λ K keeps s n j in_range is.
+    let k = subst (λ (v : View). Keeps v K) (sym c.self.view_is) keeps in
+    let sees = subst (λ (l : List SetInfo). Sees l c.self.inside.pending K) (sym c.deref.ensures.value) (sees_of _ K k) in
+    c.mend_for.ensures.recipes K sees s n (version_high K.state s n j is) ∙ ap (λ (v : View). blob_at v.told.blobs (recipe_name s n)) c.self.view_is in
+    always c.from_residual.result _ kept
+
+pub returns-in-Ok-clause-recipes : goal.returns-in-Ok-clause-recipes
+returns-in-Ok-clause-recipes g c tells K keeps s n j in_range is =
+    let k = subst (λ (v : View). Keeps v K) (sym c.self.view_is) keeps in
+    let sees = subst (λ (l : List SetInfo). Sees l c.self.inside.pending K) (sym c.deref.ensures.value) (sees_of _ K k) in
+    let k2 = mended _ K k (g.S.Shelf.told c.mend_for.new.shelf) c.mend_for.new.pending c.in_ok-mend_for.ensures.over (c.in_ok-mend_for.ensures.mended K sees k.held) in
+    let none = ap (λ (v : View). v.job) c.self.view_is ∙ c.requires in
+    let below : c.args.set < length K.state.datasets = omega (arith, c.ranges.set.fits, k.core.state.sets) in
+    let late = c.latest-latest.ensures K (subst (λ (v : View). Keeps v K) c.self.view_is k) in
+    let low : c.args.through < latest_of K.state c.args.set = omega (arith, late, c.if-through-latest.false) in
+    let r = removing_of _ (after_mend K.strays K) k2 none c.args.set c.args.through below low c.in-Here.index (ap index_of (sym c.in-Here.is)) refl in
+    c.in-Ok.ensures.recipes (c.mend_for.ensures.tells (subst (λ (v : View). IsSome v.told.blobs) (sym c.self.view_is) tells)) (after_mend K.strays K) r k2.held s n j in_range is
+    ∙ c.mend_for.ensures.recipes K sees s n (version_high K.state s n j (shrinking.version_was K.state c.args.set c.args.through k.core.state below low s n j is))
+    ∙ ap (λ (v : View). blob_at v.told.blobs (recipe_name s n)) c.self.view_is
+
+pub returns-in-Err-clause-all_recipes : goal.returns-in-Err-clause-all_recipes
+returns-in-Err-clause-all_recipes g c K keeps s n j in_range is =
+    let k = subst (λ (v : View). Keeps v K) (sym c.self.view_is) keeps in
+    let sees = subst (λ (l : List SetInfo). Sees l c.self.inside.pending K) (sym c.deref.ensures.value) (sees_of _ K k) in
+    c.in-Err.ensures.all_recipes s n
+    ∙ c.mend_for.ensures.recipes K sees s n (version_high K.state s n j is)
+    ∙ ap (λ (v : View). blob_at v.told.blobs (recipe_name s n)) c.self.view_is

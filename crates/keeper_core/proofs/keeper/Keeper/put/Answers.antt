@@ -1,5 +1,6 @@
 use Rattle.std.proofs.Common.{◌≡◌, ℕ, List, Option, Some, sym, subst, ap, ◌∙◌}
 use Rattle.std.specs.Prelude.{IsSome, IsSomeAnd}
+use Rattle.vault_types.specs.Shelf.{blob_at, recipe_name}
 use Rattle.vault_types.specs.Tables.{IsWhole}
 use Rattle.vault_types.specs.Events.{after_put, after_refused}
 use Rattle.keeper_catalog.specs.declared.JobInfo.{JobInfo}
@@ -71,3 +72,9 @@ returns-in-Err-clause-tells g c told = c.put_sealed.ensures.tells (subst (λ (v 
 
 pub returns-in-Err-clause-pins : goal.returns-in-Err-clause-pins
 returns-in-Err-clause-pins g c = ap (λ (v : View). v.pins) c.self.view_is
+
+pub returns-in-Ok-clause-recipes : goal.returns-in-Ok-clause-recipes
+returns-in-Ok-clause-recipes g c s n = c.put_sealed.ensures.recipes s n ∙ ap (λ (v : View). blob_at v.told.blobs (recipe_name s n)) c.self.view_is
+
+pub returns-in-Err-clause-recipes : goal.returns-in-Err-clause-recipes
+returns-in-Err-clause-recipes g c s n = c.put_sealed.ensures.recipes s n ∙ ap (λ (v : View). blob_at v.told.blobs (recipe_name s n)) c.self.view_is

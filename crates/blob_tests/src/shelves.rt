@@ -51,10 +51,7 @@ pub fn one_chunk(alloc: Global) -> Result<Sealed, Fail> {
         },
     )?;
     let filled = filler.finish()?;
-    match filled.last {
-        Some(sealed) => Ok(sealed),
-        None => Err(Fail::from("no container")),
-    }
+    Ok(filled.last.ok_or("no container")?)
 }
 
 pub fn shelf_with(alloc: Global, name: Name, blob: &[u8]) -> Result<MemShelf, Memory> {

@@ -159,7 +159,10 @@ fn all_is_copied(
     for (slots, whole, answer) in copies {
         let copier = copier_of(alloc, SPOTS.as_slice(), *slots, *whole)?;
         let end = copied(alloc, copier, 100, 100)?;
-        if end.answer != *answer || end.taken.as_slice() != b"abcyzdef" || end.wants.is_some() {
+        if end.answer != *answer
+            || end.taken.as_slice() != b"abcyzdef".as_slice()
+            || end.wants.is_some()
+        {
             return Ok(false);
         }
     }

@@ -50,10 +50,7 @@ pub fn one_chunk(alloc: Global) -> Result<Sealed, Fail> {
             how: How::Write,
         },
     )?;
-    match filler.finish().last {
-        Some(unsealed) => Ok(unsealed.seal()),
-        None => Err(Fail::from("no container")),
-    }
+    Ok(filler.finish().last.ok_or("no container")?.seal())
 }
 
 pub fn shelf_with(alloc: Global, name: Name, blob: &[u8]) -> Result<MemShelf, Memory> {

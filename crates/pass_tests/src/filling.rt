@@ -98,7 +98,12 @@ fn a_chunk_that_does_not_fit_begins_a_container(rt: HostRuntime) -> Result<(), F
 #[test]
 fn rows_name_the_container_that_has_the_chunk(rt: HostRuntime) -> Result<(), Fail> {
     let alloc = rt.alloc();
-    let chunks = [(1, 2, How::Old(4)), (1, 2, How::Own), (2, 2, How::Write), (1, 2, How::Write)];
+    let chunks = [
+        (1, 2, How::Old(4)),
+        (1, 2, How::Own),
+        (2, 2, How::Write),
+        (1, 2, How::Write),
+    ];
     let mut filler = Filler::new(alloc, 5, 3);
     push_all(alloc, &mut filler, &chunks)?;
     add_rows(alloc, &mut filler, 1)?;

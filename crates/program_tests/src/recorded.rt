@@ -50,11 +50,6 @@ impl Recorded {
         settled
     }
 
-    /// How many writes are not settled.
-    pub fn unsettled(&self) -> usize {
-        self.steps.as_slice().len().saturating_sub(self.settled())
-    }
-
     /// The shelf after a crash: what is settled, and of the writes behind that the first where bit 0 of `taken` is 1, the
     /// next where bit 1 is, and so on.
     pub fn image(&self, alloc: Global, taken: u64) -> Result<MemShelf, Fail> {

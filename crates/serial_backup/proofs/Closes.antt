@@ -13,6 +13,7 @@ use Rattle.vault_types.specs.declared.Pending.{Pending}
 use Rattle.vault_types.specs.declared.Pending.TheVariants as pending
 use Rattle.vault_types.specs.declared.Recipe.{Recipe}
 use Rattle.vault_types.specs.Names.{fp}
+use Rattle.vault_types.specs.Blobs.{recipe_bytes}
 use Rattle.vault_types.specs.Tables.{Container}
 use Rattle.vault_types.specs.State.{State, IsValid, is_full, latest_of, next_of, next_in}
 use Rattle.vault_types.specs.Backup.{backup, after_filling, version_from}
@@ -21,11 +22,12 @@ use Rattle.vault_types.specs.Events.{Core, Change, Job, IsNear, IsCore, IsChange
 use Rattle.vault_traits.specs.Told.{ShelfTold, SourceTold}
 use Rattle.vault_traits.specs.Crash.{LeavesNowIfTold, LeavesOnlyIfTold}
 use Rattle.vault_traits.proofs.Moments.{then, ends, more, more_now, stays}
-use Rattle.blob_parts.specs.Causes.{IsCause, IsUndamaged}
+use Rattle.blob_parts.specs.Causes.{Has, IsCause, IsUndamaged}
 use Rattle.commit_laws.specs.Laws.{AreStraysLeft}
 use Rattle.commit_laws.proofs.Committing.{commit_core}
 use Rattle.backup_pass.specs.Passing.{HasPassed, index_in}
 use Rattle.backup_pass.specs.declared.pass.Pass.{Pass}
+use Rattle.keeper_parts.specs.Recipes.{KeepsRecipes}
 use Rattle.keeper_catalog.specs.declared.JobInfo.{JobInfo}
 use Rattle.keeper_catalog.specs.View.{View, Keeps, HasCore, job_info}
 use Rattle.keeper_jobs.specs.Jobs.{version_by}
@@ -36,6 +38,7 @@ use Rattle.serial_backup.specs.Going.{Began, IsOf, IsUnderway, IsGoing, IsStoppe
 use Rattle.serial_backup.proofs.Jobs.{near_any, put_cause}
 use Rattle.serial_backup.proofs.Feeding.{gives_none, put_is_cause}
 use Rattle.serial_backup.proofs.Concluding.{made_is}
+use Rattle.serial_backup.proofs.Recipes.{second_there}
 
 -- the state after a commit of the definition's version is that after the backup
 commit_is : (b : Began) (K : Core) (read : List ℕ) → IsOf b K.state → committed (version_from K.state (made b read) (fp read) b.config) (job_with b.set (made b read).containers) K.state ≡ backup K.state b.set read b.config
@@ -89,6 +92,8 @@ full_backs_up s config limits v from latest next idle full latest_is next_is = r
   pins = refl;
   strays = tt;
   tells = λ told. told;
+  recipes = λ K kept t n k below is. refl;
+  second = tt;
   gets = refl;
   store_later = omega arith;
   source_later = omega arith;
@@ -111,10 +116,10 @@ begin_cause s config limits v w from f cause = put_is_cause (start_of s config l
 
 module _ (s : ℕ) (config : JobConfig) (limits : Limits) (v w : View) (from : SourceTold) (roomy : (K : Core) → Keeps v K → is_full K.state s limits ≡ true → ⊥) where
   pub begin_backs_up : (f : Fault) → ((K : Core) → Keeps v K → Keeps w K) → w.job ≡ None → IsCause v.told.faults w.told.faults IsUndamaged f → v.told.faults ≤ w.told.faults → w.told.gets ≡ v.told.gets
-      → w.pins ≡ v.pins → (IsSome v.told.blobs → IsSome w.told.blobs)
+      → w.pins ≡ v.pins → (IsSome v.told.blobs → IsSome w.told.blobs) → ((K : Core) → Keeps v K → KeepsRecipes K.state v.told.blobs w.told.blobs)
       → ((K : Core) → Keeps v K → LeavesNowIfTold v.told.history (IsNear K.state K.other) → LeavesOnlyIfTold v.told.history w.told.history (IsNear K.state K.other))
       → (r : Result Answer Fault) → IsErrAnd r (λ e. e ≡ f) → BacksUp s config limits v w from from r
-  begin_backs_up f keeps idle cause later gets pins tells moment = err_again (BacksUp s config limits v w from from) f (record {
+  begin_backs_up f keeps idle cause later gets pins tells recipes moment = err_again (BacksUp s config limits v w from from) f (record {
     read = [];
     given = gives_none from.left;
     within = omega arith;
@@ -138,6 +143,8 @@ module _ (s : ℕ) (config : JobConfig) (limits : Limits) (v w : View) (from : S
     pins = pins;
     strays = tt;
     tells = tells;
+    recipes = recipes;
+    second = tt;
     gets = gets;
     store_later = later;
     source_later = omega arith;
@@ -189,7 +196,8 @@ module _ (b : Began) (now : View) (core : HasCore b.keeper) (roomy : (K : Core) 
   module _ (set : b.set < 256) (most : b.limits.chunks ≤ 4194304) (last : b.limits.last ≤ 4294967294) (keeps : (K : Core) → Keeps b.keeper K → Keeps now (after_begin b.set K.strays K)) (lent : now.index ≡ b.index)
       (moment : (K : Core) → Keeps b.keeper K → LeavesNowIfTold b.keeper.told.history (IsNear K.state K.other) → LeavesOnlyIfTold b.keeper.told.history now.told.history (IsNear K.state K.other))
       (mended : (b.keeper.pending ≡ pending.Not → ⊥) → (K : Core) → Keeps b.keeper K → LeavesNowIfTold now.told.history (IsNear K.state None))
-      (gets : now.told.gets ≡ b.keeper.told.gets) (later : b.keeper.told.faults ≤ now.told.faults) (pins : now.pins ≡ b.keeper.pins) (tells : IsSome b.keeper.told.blobs → IsSome now.told.blobs) where
+      (gets : now.told.gets ≡ b.keeper.told.gets) (later : b.keeper.told.faults ≤ now.told.faults) (pins : now.pins ≡ b.keeper.pins) (tells : IsSome b.keeper.told.blobs → IsSome now.told.blobs)
+      (recipes : (K : Core) → Keeps b.keeper K → KeepsRecipes K.state b.keeper.told.blobs now.told.blobs) where
     images : (K : Core) → Keeps b.keeper K → (b.keeper.pending ≡ pending.Not → LeavesNowIfTold b.keeper.told.history (IsNear K.state K.other)) → LeavesNowIfTold now.told.history (IsNear K.state None)
     images K kept before = step b.keeper.pending refl
       where
@@ -218,6 +226,7 @@ module _ (b : Began) (now : View) (core : HasCore b.keeper) (roomy : (K : Core) 
       lent = lent;
       pins = pins;
       tells = tells;
+      recipes = recipes;
       strays = λ n among. inl (as_before n among);
       later = later;
       gets = gets;
@@ -273,6 +282,8 @@ module _ (b : Began) (roomy : (K : Core) → Keeps b.keeper K → is_full K.stat
     pins = pins ∙ h.underway.pins;
     strays = tt;
     tells = λ some. subst (λ (t : ShelfTold). IsSome t.blobs) (sym told) (h.underway.tells some);
+    recipes = λ K kept. subst (λ (t : ShelfTold). KeepsRecipes K.state b.keeper.told.blobs t.blobs) (sym told) (h.underway.recipes K kept);
+    second = tt;
     gets = ap (λ (t : ShelfTold). t.gets) told ∙ h.underway.gets;
     store_later = omega (arith, ap (λ (t : ShelfTold). t.faults) told, h.underway.later);
     source_later = h.source_later;
@@ -299,7 +310,11 @@ module _ (b : Began) (roomy : (K : Core) → Keeps b.keeper K → is_full K.stat
     state_is K kept = ap (λ k. committed k job K.state) (h.ready.says K kept) ∙ commit_is b K h.read (h.underway.told K kept)
 
     module _ (moment : (K : Core) (j : Job) → Keeps before K → CanCommit K j p.0 → LeavesNowIfTold before.told.history (IsNear K.state None)
-        → LeavesOnlyIfTold before.told.history now.told.history (IsNear K.state (Some (commit_change (version_by K j p.0) j p.0 K.state)))) (gets : now.told.gets ≡ before.told.gets) (later : before.told.faults ≤ now.told.faults) (pins : now.pins ≡ before.pins) (tells : IsSome before.told.blobs → IsSome now.told.blobs) where
+        → LeavesOnlyIfTold before.told.history now.told.history (IsNear K.state (Some (commit_change (version_by K j p.0) j p.0 K.state)))) (gets : now.told.gets ≡ before.told.gets) (later : before.told.faults ≤ now.told.faults) (pins : now.pins ≡ before.pins) (tells : IsSome before.told.blobs → IsSome now.told.blobs)
+        (stay : (K : Core) (j : Job) → Keeps before K → CanCommit K j p.0 → KeepsRecipes K.state before.told.blobs now.told.blobs) where
+      recipes : (K : Core) → Keeps b.keeper K → KeepsRecipes K.state b.keeper.told.blobs now.told.blobs
+      recipes K kept t n k below is = stay (core_of K) job (h.underway.keeps K kept) (h.ready.can K kept) t n k below is ∙ h.underway.recipes K kept t n k below is
+
       wider : (K : Core) → Keeps b.keeper K → (c : Blobs) → IsNear K.state (Some (change_of K)) c → IsNear K.state K.other c ⊎ Stands c (backup K.state b.set h.read b.config)
       wider K kept c (inl stands) = inl (inl stands)
       wider K kept c (inr has) = inr (subst (Stands c) (state_is K kept) has.other)
@@ -315,8 +330,9 @@ module _ (b : Began) (roomy : (K : Core) → Keeps b.keeper K → is_full K.stat
       pub commit_backs_up : ((K : Core) (j : Job) → Keeps before K → CanCommit K j p.0 → Keeps now (after_commit (version_by K j p.0) j now.memo.strays K))
           → ((K : Core) (j : Job) → Keeps before K → CanCommit K j p.0 → LeavesNowIfTold now.told.history (IsNear (committed (version_by K j p.0) j K.state) None))
           → ((K : Core) (j : Job) → Keeps before K → CanCommit K j p.0 → AreStraysLeft before.memo.strays (recipe_name j.set p.0.version) j.containers now.memo.strays)
+          → ((K : Core) (j : Job) → Keeps before K → CanCommit K j p.0 → Has now.told.blobs (recipe_name p.0.set p.0.version) (Some (recipe_bytes p.0)))
           → BacksUp b.set b.config b.limits b.keeper now b.source to (Ok p.1)
-      commit_backs_up ok acked left = record {
+      commit_backs_up ok acked left spelled = record {
         read = h.read;
         given = h.given;
         within = h.within;
@@ -336,6 +352,9 @@ module _ (b : Began) (roomy : (K : Core) → Keeps b.keeper K → is_full K.stat
             let were = (left (core_of h.underway.core.0) job (h.underway.keeps h.underway.core.0 h.underway.core.1) (h.ready.can h.underway.core.0 h.underway.core.1)).were n among in
             ⊎_elim (λ old. old) (λ put. absurd (were.2 put)) (h.named.each n were.0);
         tells = λ some. tells (h.underway.tells some);
+        recipes = recipes;
+        second = λ some K k kept is. second_there (core_of K) job p.0 kept.core.state (h.ready.can K kept) h.ready.whole now.told.blobs (spelled (core_of K) job (h.underway.keeps K kept) (h.ready.can K kept)) (tells (h.underway.tells some))
+            (backup K.state b.set h.read b.config) (state_is K kept) k is;
         gets = gets ∙ h.underway.gets;
         store_later = omega (arith, h.underway.later);
         source_later = h.source_later;
@@ -410,6 +429,8 @@ module _ (b : Began) (roomy : (K : Core) → Keeps b.keeper K → is_full K.stat
           pins = pins ∙ h.underway.pins;
           strays = tt;
           tells = λ some. tells (h.underway.tells some);
+          recipes = recipes;
+          second = tt;
           gets = gets ∙ h.underway.gets;
           store_later = omega (arith, h.underway.later);
           source_later = h.source_later;

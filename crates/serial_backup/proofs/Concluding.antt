@@ -226,6 +226,7 @@ module _ (b : Began) (now : View) (e : Ended) (lens read : List ℕ) (h : HasEnd
         says = λ K kept.
             let next : e.next ≡ next_of K.state + length (made b read).containers = h.is.next ∙ ap (λ n. n + length (made b read).containers) (h.underway.told K kept).first in
             cc (next, h.is.rows, sparse_are K kept, h.is.whole);
+        whole = refl;
         answer = λ K kept.
             let of = h.underway.told K kept in
             let chunks : length rows ≡ length (made b read).rows = ap length rows_are in

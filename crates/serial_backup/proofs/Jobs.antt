@@ -8,7 +8,7 @@ use Rattle.vault_types.specs.declared.Fault.{Fault}
 use Rattle.vault_types.specs.declared.Fault.TheVariants as fault
 use Rattle.vault_types.specs.Tables.{Container}
 use Rattle.vault_types.specs.State.{State}
-use Rattle.vault_types.specs.Shelf.{Blobs, table_name, payload_name}
+use Rattle.vault_types.specs.Shelf.{Blobs, blob_at, table_name, payload_name, recipe_name}
 use Rattle.vault_types.specs.Events.{Core, Change, IsContainerName, IsNear, after_put, after_refused}
 use Rattle.vault_traits.specs.Counts.{Rose}
 use Rattle.vault_traits.specs.Crash.{LeavesNowIfTold, LeavesOnlyIfTold}
@@ -55,7 +55,8 @@ next_is b now containers h id is =
 module _ (b : Began) (old now : View) (containers : List Container) (c : Container) (id : c.table.id ≡ b.first + length containers) (room : length containers < b.limits.chunks) (h : IsUnderway b old containers)
     (moment : (K : Core) → Keeps old K → LeavesNowIfTold old.told.history (IsNear K.state K.other) → LeavesOnlyIfTold old.told.history now.told.history (IsNear K.state K.other))
     (strays : (now.memo.strays ≡ old.memo.strays) ⊎ (now.memo.strays ≡ old.memo.strays ++ names_of c.table.id))
-    (lent : now.index ≡ old.index) (pins : now.pins ≡ old.pins) (tells : IsSome old.told.blobs → IsSome now.told.blobs) (gets : now.told.gets ≡ old.told.gets) (later : old.told.faults ≤ now.told.faults) where
+    (lent : now.index ≡ old.index) (pins : now.pins ≡ old.pins) (tells : IsSome old.told.blobs → IsSome now.told.blobs) (gets : now.told.gets ≡ old.told.gets) (later : old.told.faults ≤ now.told.faults)
+    (recipes : (s v : ℕ) → blob_at now.told.blobs (recipe_name s v) ≡ blob_at old.told.blobs (recipe_name s v)) where
   more_names : (n : Name) → Contains (old.memo.strays ++ names_of c.table.id) n → Contains b.keeper.memo.strays n ⊎ IsJobName b.first b.limits.chunks n
   more_names n among =
       let two : Contains ((old.memo.strays ++ payload_name c.table.id ∷ []) ++ table_name c.table.id ∷ []) n =
@@ -85,6 +86,7 @@ module _ (b : Began) (old now : View) (containers : List Container) (c : Contain
     lent = lent ∙ h.lent;
     pins = pins ∙ h.pins;
     tells = λ told. tells (h.tells told);
+    recipes = λ K kept s v k below is. recipes s v ∙ h.recipes K kept s v k below is;
     strays = strays_now;
     later = omega (arith, h.later);
     gets = gets ∙ h.gets;

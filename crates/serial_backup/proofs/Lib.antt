@@ -9,3 +9,4 @@ pub mod Rows
 pub mod Newest
 pub mod Concluding
 pub mod Closes
+mod Recipes

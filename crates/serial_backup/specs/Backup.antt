@@ -1,5 +1,5 @@
 -- A backup into a store.
-use Rattle.std.specs.Prelude.{◌≡◌, ◌⊎◌, ◌≤◌, ◌<◌, ◌+◌, ◌*◌, ℕ, true, List, [], length, Contains, Option, None, IfSome, IsSome, IsSomeAnd, OnOk, IfOk, IfErr, Result, Err}
+use Rattle.std.specs.Prelude.{◌≡◌, ◌⊎◌, ◌≤◌, ◌<◌, ◌+◌, ◌*◌, ℕ, true, List, [], length, Contains, Option, None, IfSome, IsSome, IsSomeAnd, OnOk, IfOk, IfErr, Result, Err, Some}
 use Rattle.vault_types.specs.declared.JobConfig.{JobConfig}
 use Rattle.vault_types.specs.declared.Limits.{Limits}
 use Rattle.vault_types.specs.declared.Name.{Name}
@@ -9,13 +9,14 @@ use Rattle.vault_types.specs.declared.Fault.{Fault}
 use Rattle.vault_types.specs.declared.Fault.TheVariants as fault
 use Rattle.vault_types.specs.declared.Answer.{Answer}
 use Rattle.vault_types.specs.Cuts.{cuts, settled}
-use Rattle.vault_types.specs.State.{State, IsValid, latest_of, next_of, is_full}
+use Rattle.vault_types.specs.State.{State, KeptVersion, IsValid, latest_of, next_of, is_full, version_of}
 use Rattle.vault_types.specs.Backup.{backup, stored}
 use Rattle.vault_types.specs.Shelf.{table_name, payload_name, recipe_name, Stands}
 use Rattle.vault_types.specs.Events.{Core, Change, IsNear, after_refused}
 use Rattle.vault_traits.specs.Told.{SourceTold, Gives}
 use Rattle.vault_traits.specs.Crash.{LeavesNowIfTold, LeavesOnlyIfTold}
 use Rattle.vault_traits.specs.Counts.{Rose}
+use Rattle.keeper_parts.specs.Recipes.{IsSecond, KeepsRecipes}
 use Rattle.keeper_catalog.specs.View.{View, Keeps}
 use Rattle.keeper_core.specs.Calls.{IsShelfFault}
 
@@ -101,6 +102,9 @@ pub record BacksUp (s : ℕ) (config : JobConfig) (limits : Limits) (v w : View)
   pub pins : w.pins ≡ v.pins
   pub strays : OnOk result ((n : Name) → Contains w.memo.strays n → Contains v.memo.strays n)
   pub tells : IsSome v.told.blobs → IsSome w.told.blobs
+  -- the recipes that were kept stay as they were, and that of a new version is in the second format
+  pub recipes : (K : Core) → Keeps v K → KeepsRecipes K.state v.told.blobs w.told.blobs
+  pub second : OnOk result (IsSome v.told.blobs → (K : Core) (k : KeptVersion) → Keeps v K → version_of (backup K.state s read config) s (latest_of K.state s + 1) ≡ Some k → IsSecond w.told.blobs s (latest_of K.state s + 1) k)
   pub gets : w.told.gets ≡ v.told.gets
   pub store_later : v.told.faults ≤ w.told.faults
   pub source_later : from.faults ≤ to.faults

@@ -25,6 +25,7 @@ use Rattle.backup_pass.specs.declared.pass.Pass.{Pass}
 use Rattle.backup_pass.specs.declared.pass.Passed.{Passed}
 use Rattle.backup_pass.specs.Passing.{HasPassed, IsPassFault, index_in}
 use Rattle.stream_cutter.specs.Cutters.{IsCuttable}
+use Rattle.keeper_parts.specs.Recipes.{KeepsRecipes}
 use Rattle.keeper_catalog.specs.View.{View, Keeps, HasCore}
 use Rattle.keeper_jobs.specs.Jobs.{version_by}
 use Rattle.serial_backup.specs.declared.ending.Ended.{Ended}
@@ -81,6 +82,7 @@ pub record IsUnderway (b : Began) (now : View) (containers : List Container) : T
   pub lent : now.index ≡ b.index
   pub pins : now.pins ≡ b.keeper.pins
   pub tells : IsSome b.keeper.told.blobs → IsSome now.told.blobs
+  pub recipes : (K : Core) → Keeps b.keeper K → KeepsRecipes K.state b.keeper.told.blobs now.told.blobs
   pub strays : (n : Name) → Contains now.memo.strays n → Contains b.keeper.memo.strays n ⊎ IsJobName b.first b.limits.chunks n
   pub later : b.keeper.told.faults ≤ now.told.faults
   pub gets : now.told.gets ≡ b.keeper.told.gets
@@ -205,11 +207,12 @@ pub record IsJobOf (b : Began) (job : Job) : Type 0 where
   pub first : job.first ≡ b.first
   pub config : job.config ≡ b.config
 
--- the recipe may be committed and says the version of the definition, and the answer is that of it
+-- the recipe may be committed and says the version of the definition, with the sum of its bytes, and the answer is that of it
 pub record IsReady (b : Began) (now : View) (read : List ℕ) (p : Recipe × Answer) : Type 0 where
   pub can : (K : Core) → Keeps b.keeper K → CanCommit (job_core b.set (made b read).containers now K) (job_with b.set (made b read).containers) p.0
   pub says : (K : Core) → Keeps b.keeper K
       → version_by (job_core b.set (made b read).containers now K) (job_with b.set (made b read).containers) p.0 ≡ version_from K.state (made b read) (fp read) b.config
+  pub whole : IsSome p.0.whole
   pub answer : (K : Core) → Keeps b.keeper K → p.1 ≡ stored K.state b.set read b.config
 
 -- all is put but the recipe, which is ready

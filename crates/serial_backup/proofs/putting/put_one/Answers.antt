@@ -10,11 +10,11 @@ put-requires-clause-low g c = omega (arith, c.requires.3, c.requires.4, c.requir
 
 pub returns-clause-ok : goal.returns-clause-ok
 returns-clause-ok g c b before id room h =
-    put_ok b _ _ before c.args.sealed id room h c.put.ensures.any_moment c.put.ensures.strays c.put.ensures.lent c.put.ensures.pins c.put.ensures.tells c.put.ensures.gets c.put.ensures.causes.later c.put.result c.put.ensures.ok
+    put_ok b _ _ before c.args.sealed id room h c.put.ensures.any_moment c.put.ensures.strays c.put.ensures.lent c.put.ensures.pins c.put.ensures.tells c.put.ensures.gets c.put.ensures.causes.later c.put.ensures.recipes c.put.result c.put.ensures.ok
 
 pub returns-clause-err : goal.returns-clause-err
 returns-clause-err g c b before id room h =
-    put_stop b _ _ before c.args.sealed id room h c.put.ensures.any_moment c.put.ensures.strays c.put.ensures.lent c.put.ensures.pins c.put.ensures.tells c.put.ensures.gets c.put.ensures.causes.later c.put.result c.put.ensures.err c.put.ensures.causes.each
+    put_stop b _ _ before c.args.sealed id room h c.put.ensures.any_moment c.put.ensures.strays c.put.ensures.lent c.put.ensures.pins c.put.ensures.tells c.put.ensures.gets c.put.ensures.causes.later c.put.ensures.recipes c.put.result c.put.ensures.err c.put.ensures.causes.each
 
 pub returns-clause-waits : goal.returns-clause-waits
 returns-clause-waits g c = put_waits c.requires.0 _ _ c.requires.1 c.args.sealed c.requires.2 c.put.result c.put.ensures.ok

@@ -15,7 +15,7 @@ use Rattle.vault_types.specs.Cuts.{cuts}
 use Rattle.vault_types.specs.Shelf.{recipe_name, Stands}
 use Rattle.vault_types.specs.State.{State, IsValid, is_full, latest_of, next_of}
 use Rattle.vault_types.specs.Backup.{backup, stored}
-use Rattle.vault_types.specs.Events.{Core, Change, IsNear, after_refused}
+use Rattle.vault_types.specs.Events.{Core, Change, Pin, IsNear, after_refused}
 use Rattle.vault_types.specs.Script.{Sources, after, is_refused, is_store_fault}
 use Rattle.vault_traits.specs.Counts.{Rose}
 use Rattle.vault_traits.specs.Crash.{History, LeavesNowIfTold, LeavesOnlyIfTold}
@@ -32,7 +32,7 @@ use Rattle.script_laws.specs.Table.{MeansLine}
 use Rattle.script_laws.proofs.Following.{near_with}
 use Rattle.script_laws.proofs.LineLemmas.{unmoved, full_is, full_means, not_full_means}
 use Rattle.vault_types.specs.declared.Pending.TheVariants as pending
-use Rattle.serial_delete.specs.Keeping.{IsStateOf, IsKnownStray}
+use Rattle.serial_delete.specs.Keeping.{IsStateWith, IsKnownStray}
 use Rattle.serial_delete.proofs.Keeping.{changed_of, images_of}
 use Rattle.serial_backup.specs.Backup.{BacksUp, IsRefused, IsBackupFault, MayBeHalf, after_backup, full_fault}
 use Rattle.backup_lines.proofs.Reading.{whole_read, too_many}
@@ -58,25 +58,25 @@ module _ (sources : Sources) (S : State) (other : Option Change) (line : Line) w
 
 -- ---- the line, in a state that is kept
 
-module _ (u v : View) (s : ℕ) (config : JobConfig) (limits : Limits) (from to : SourceTold) (x : List ℕ) where
+module _ (u v : View) (ps : List Pin) (s : ℕ) (config : JobConfig) (limits : Limits) (from to : SourceTold) (x : List ℕ) where
   abbrev line : Line
   line = Backup s [] config
 
   -- what the line comes to
   abbrev Goes : View → State → Option Change → Answer → Type 0
   Goes w S other a =
-      (next : Option Change) × IsStateOf w (after (λ _. x) S line a) next
+      (next : Option Change) × IsStateWith w ps (after (λ _. x) S line a) next
       × StepsOn limits (λ _. x) S other line a next (IsKnownStray u) (IsKnownStray w) u.told w.told
 
-  goes_from : (S : State) (other : Option Change) (a : Answer) (is : IsStateOf u S other) → Goes v is.core.state is.core.other a → Goes v S other a
+  goes_from : (S : State) (other : Option Change) (a : Answer) (is : IsStateWith u ps S other) → Goes v is.core.state is.core.other a → Goes v S other a
   goes_from S other a is goes = subst (λ (T : State). Goes v T other a) is.state (subst (λ (o : Option Change). Goes v is.core.state o a) is.change goes)
 
-  module _ (left : from.left ≡ Some x) (can : IsCuttable config.cutting) (K : Core) (keeps : Keeps u K) (no_pins : K.pins ≡ []) (told : IsSome u.told.blobs) (changed : IfSome K.other (λ h. IsValid h.state)) (images : u.pending ≡ pending.Not → LeavesNowIfTold u.told.history (IsNear K.state K.other)) where
+  module _ (left : from.left ≡ Some x) (can : IsCuttable config.cutting) (K : Core) (keeps : Keeps u K) (pinned : K.pins ≡ ps) (told : IsSome u.told.blobs) (changed : IfSome K.other (λ h. IsValid h.state)) (images : u.pending ≡ pending.Not → LeavesNowIfTold u.told.history (IsNear K.state K.other)) where
     -- it was done
     done_goes : (a : Answer) → BacksUp s config limits u v from to (Ok a) → Goes v K.state K.other a
     done_goes a h = subst (λ (b : Answer). Goes v K.state K.other b) (sym is) (
       None,
-      record { core = after_backup s h.read config v.memo.strays v.pending K; keeps = h.done K keeps; state = same; change = refl; job = refl; pins = no_pins; told = h.tells told; changed = tt; images = λ e. more_now (λ c. Stands c (backup K.state s h.read config)) (IsNear (after (λ _. x) K.state line (stored K.state s x config)) None) (λ c stands. inl (subst (Stands c) same stands)) v.told.history (h.crash_after K keeps) },
+      record { core = after_backup s h.read config v.memo.strays v.pending K; keeps = h.done K keeps; state = same; change = refl; job = refl; pins = pinned; told = h.tells told; changed = tt; images = λ e. more_now (λ c. Stands c (backup K.state s h.read config)) (IsNear (after (λ _. x) K.state line (stored K.state s x config)) None) (λ c stands. inl (subst (Stands c) same stands)) v.told.history (h.crash_after K keeps) },
       record {
         means = record {
           done = inr refl;
@@ -114,7 +114,7 @@ module _ (u v : View) (s : ℕ) (config : JobConfig) (limits : Limits) (from to 
     full_goes : (f : Fault) → is_full K.state s limits ≡ true → K.job ≡ None → BacksUp s config limits u v from to (Err f) → Goes v K.state K.other (Refused f)
     full_goes f full no_job h = subst (λ (w : View). Goes w K.state K.other (Refused f)) (sym (h.full K keeps full).1) (subst (λ (g : Fault). Goes u K.state K.other (Refused g)) (sym (is (h.full K keeps full).0)) (
       K.other,
-      record { core = K; keeps = keeps; state = refl; change = refl; job = no_job; pins = no_pins; told = told; changed = changed; images = images },
+      record { core = K; keeps = keeps; state = refl; change = refl; job = no_job; pins = pinned; told = told; changed = changed; images = images },
       unmoved limits (λ _. x) K.state K.other line (full_fault s K.state) (IsKnownStray u) u.told
           (full_means limits (λ _. x) K.state s [] config (latest_of K.state s) (next_of K.state) (sym full) refl refl)
           (inr (inl (full_fault s K.state, full_is limits K.state s [] config (latest_of K.state s) (next_of K.state) (sym full) refl refl, refl)))
@@ -130,7 +130,7 @@ module _ (u v : View) (s : ℕ) (config : JobConfig) (limits : Limits) (from to 
         → Goes v K.state K.other (Refused f)
     other_goes f h means complete others few among = (
       r.other,
-      record { core = after_refused r.other None v.memo.strays v.pending K; keeps = r.keeps; state = refl; change = refl; job = refl; pins = no_pins; told = h.tells told; changed = r.changed changed; images = r.settled images },
+      record { core = after_refused r.other None v.memo.strays v.pending K; keeps = r.keeps; state = refl; change = refl; job = refl; pins = pinned; told = h.tells told; changed = r.changed changed; images = r.settled images },
       record {
         means = means;
         complete = complete;
@@ -213,18 +213,18 @@ causes_done u v from to S s x config a is store source =
     subst (λ (b : Answer). CausesRise (counts_of_source u.told from) (counts_of_source v.told to) (b ∷ [])) (sym is) (record { store = store; place = omega arith; read = source; write = omega arith })
 
 pub backs_up_line : (u v : View) (s : ℕ) (config : JobConfig) (limits : Limits) (from to : SourceTold) (result : Result Answer Fault) → HasCore u → IsCuttable config.cutting → BacksUp s config limits u v from to result
-    → BacksUpLine (IsStateOf u) (IsStateOf v) (IsKnownStray u) (IsKnownStray v) limits s config u.told v.told from to result
-backs_up_line u v s config limits from to (Ok a) core can h = record {
+    → (ps : List Pin) → BacksUpLine (IsStateWith u ps) (IsStateWith v ps) (IsKnownStray u) (IsKnownStray v) limits s config u.told v.told from to result
+backs_up_line u v s config limits from to (Ok a) core can h ps = record {
   done = ap is_refused (h.answer core.0 core.1);
   kind = kind_done limits core.0.state s h.read config a (h.answer core.0 core.1);
   causes = causes_done u v from to core.0.state s h.read config a (h.answer core.0 core.1) h.store_later h.source_later;
-  steps = λ S other x here left. goes_from u v s config limits from to x S other a here (done_goes u v s config limits from to x left can here.core here.keeps here.pins here.told (changed_of u S other here) (images_of u S other here) a h);
+  steps = λ S other x here left. goes_from u v ps s config limits from to x S other a here (done_goes u v ps s config limits from to x left can here.core here.keeps here.pins here.told (changed_of u S other here) (images_of u S other here) a h);
   to_the_end = h.to_the_end;
 }
-backs_up_line u v s config limits from to (Err f) core can h = record {
+backs_up_line u v s config limits from to (Err f) core can h ps = record {
   done = tt;
   kind = kind_err limits s config u v from to h.read core.0 f (h.causes core.0 core.1);
   causes = cause_err s config limits u v from to h.read h.store_later h.source_later core.0 f (h.causes core.0 core.1);
-  steps = λ S other x here left. goes_from u v s config limits from to x S other (Refused f) here (refused_goes u v s config limits from to x left can here.core here.keeps here.pins here.told (changed_of u S other here) (images_of u S other here) f here.job h);
+  steps = λ S other x here left. goes_from u v ps s config limits from to x S other (Refused f) here (refused_goes u v ps s config limits from to x left can here.core here.keeps here.pins here.told (changed_of u S other here) (images_of u S other here) f here.job h);
   to_the_end = tt;
 }

@@ -2,10 +2,12 @@
 //! the keeper keeps.
 #![tactic(auto)]
 
-ghost use Rattle.std.specs.Prelude.{◌≡◌, ◌≤◌, None};
+ghost use Rattle.std.specs.Prelude.{◌≡◌, ◌≤◌, ℕ, List, None};
+ghost use Rattle.vault_types.specs.Events.{Pin};
 ghost use Rattle.backup_pass.specs.Passing.{IsInRange};
+ghost use Rattle.pin_laws.specs.Following.{Follows};
 ghost use Rattle.script_laws.specs.Calls.{BacksUpLine};
-ghost use Rattle.serial_delete.specs.Keeping.{IsStateOf, IsKnownStray};
+ghost use Rattle.serial_delete.specs.Keeping.{IsStateWith, IsKnownStray};
 
 use keeper_core::Keeper;
 use serial_backup::backup_plain;
@@ -30,8 +32,13 @@ pub fn backup_line<S: Shelf, I: Source>(
     requires low { 1 ≤ limits.now.chunks }
     requires high { limits.now.chunks ≤ 4194304 }
     requires last { limits.now.last ≤ 4294967294 }
-    ensures line { BacksUpLine (IsStateOf keeper.old) (IsStateOf keeper.new) (IsKnownStray keeper.old) (IsKnownStray keeper.new) limits.now set config.now keeper.old.told keeper.new.told (I.told source.old) (I.told source.new) result }
+    ensures line { (pins : List Pin) → BacksUpLine (IsStateWith keeper.old pins) (IsStateWith keeper.new pins)
+        (IsKnownStray keeper.old) (IsKnownStray keeper.new) limits.now set config.now keeper.old.told keeper.new.told
+        (I.told source.old) (I.told source.new) result }
     ensures same { (keeper.new.job ≡ None) × (keeper.new.pins ≡ keeper.old.pins) }
+
+    // Each pin stays, with its containers.
+    ensures follows { (number : ℕ) → Follows keeper.old keeper.new number }
 {
     keeper.keeps_some_core();
     backup_plain(alloc, keeper, set, source, config, limits)

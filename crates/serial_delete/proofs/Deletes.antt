@@ -12,7 +12,7 @@ use Rattle.vault_types.specs.declared.Answer.TheVariants.{Removed, Refused}
 use Rattle.vault_types.specs.declared.Line.TheVariants.{Delete}
 use Rattle.vault_types.specs.State.{State, IsValid, latest_of}
 use Rattle.vault_types.specs.Delete.{delete, removed}
-use Rattle.vault_types.specs.Events.{Core, Change, IsNear, after_delete, after_refused, delete_change}
+use Rattle.vault_types.specs.Events.{Core, Change, Pin, IsNear, after_delete, after_refused, delete_change}
 use Rattle.vault_types.specs.Script.{after, is_refused}
 use Rattle.vault_types.specs.Refusals.{due_refusal, refuses_by_state, IsExact}
 use Rattle.vault_traits.specs.Counts.{Rose}
@@ -30,7 +30,7 @@ use Rattle.vault_traits.proofs.Moments.{ends}
 use Rattle.deletion_laws.proofs.Keeping.{delete_valid}
 use Rattle.script_laws.proofs.Staying.{below_set}
 use Rattle.script_laws.proofs.LineLemmas.{unmoved}
-use Rattle.serial_delete.specs.Keeping.{IsStateOf, IsKnownStray}
+use Rattle.serial_delete.specs.Keeping.{IsStateWith, IsKnownStray}
 use Rattle.serial_delete.proofs.Keeping.{changed_of, images_of}
 use Rattle.serial_delete.proofs.Crashes.{still_bears, half_bears, half_next, done_bears, near_alone}
 
@@ -131,21 +131,21 @@ fault_or other (Err f) = f
 
 -- ---- the line
 
-module _ (u v : View) (s n : ℕ) (limits : Limits) where
+module _ (u v : View) (ps : List Pin) (s n : ℕ) (limits : Limits) where
   -- what the line comes to, from this state
   abbrev Goes : View → State → Option Change → Answer → Type 0
   Goes w S other a =
-      (next : Option Change) × IsStateOf w (after (λ _. []) S (Delete s n) a) next
+      (next : Option Change) × IsStateWith w ps (after (λ _. []) S (Delete s n) a) next
       × StepsOn limits (λ _. []) S other (Delete s n) a next (IsKnownStray u) (IsKnownStray w) u.told w.told
 
-  goes_from : (S : State) (other : Option Change) (a : Answer) (is : IsStateOf u S other) → Goes v is.core.state is.core.other a → Goes v S other a
+  goes_from : (S : State) (other : Option Change) (a : Answer) (is : IsStateWith u ps S other) → Goes v is.core.state is.core.other a → Goes v S other a
   goes_from S other a is goes = subst (λ (T : State). Goes v T other a) is.state (subst (λ (o : Option Change). Goes v is.core.state o a) is.change goes)
 
-  module _ (K : Core) (keeps : Keeps u K) (no_job : K.job ≡ None) (no_pins : K.pins ≡ []) (told : IsSome u.told.blobs) (changed : IfSome K.other (λ h. IsValid h.state)) (images : u.pending ≡ pending.Not → LeavesNowIfTold u.told.history (IsNear K.state K.other)) where
+  module _ (K : Core) (keeps : Keeps u K) (no_job : K.job ≡ None) (pinned : K.pins ≡ ps) (told : IsSome u.told.blobs) (changed : IfSome K.other (λ h. IsValid h.state)) (images : u.pending ≡ pending.Not → LeavesNowIfTold u.told.history (IsNear K.state K.other)) where
     done_goes : (a : Answer) → Clauses u v s n (Ok a) → Goes v K.state K.other a
     done_goes a c = subst (λ (b : Answer). Goes v K.state K.other b) (sym (c.ok K keeps).1) (
       None,
-      record { core = after_delete s n v.memo.strays K; keeps = (c.ok K keeps).2; state = refl; change = refl; job = no_job; pins = no_pins; told = c.tells told; changed = tt; images = λ e. c.acknowledged K keeps images },
+      record { core = after_delete s n v.memo.strays K; keeps = (c.ok K keeps).2; state = refl; change = refl; job = no_job; pins = pinned; told = c.tells told; changed = tt; images = λ e. c.acknowledged K keeps images },
       record {
         means = done_means limits K.state s n (c.ok K keeps).0;
         complete = λ all. inl ((c.ok K keeps).0, refl);
@@ -160,7 +160,7 @@ module _ (u v : View) (s n : ℕ) (limits : Limits) where
     last_goes : (f : Fault) → latest_of K.state s ≤ n → Clauses u v s n (Err f) → Goes v K.state K.other (Refused f)
     last_goes f high c = subst (λ (w : View). Goes w K.state K.other (Refused f)) (sym (c.still K keeps high)) (subst (λ (g : Fault). Goes u K.state K.other (Refused g)) (sym (ap (λ (r : Result Answer Fault). fault_or f r) (c.last K keeps high))) (
       K.other,
-      record { core = K; keeps = keeps; state = refl; change = refl; job = no_job; pins = no_pins; told = told; changed = changed; images = images },
+      record { core = K; keeps = keeps; state = refl; change = refl; job = no_job; pins = pinned; told = told; changed = changed; images = images },
       unmoved limits (λ _. []) K.state K.other (Delete s n) (fault.LastVersion s n (latest_of K.state s)) (IsKnownStray u) u.told (last_means limits K.state s n high) (last_complete limits K.state s n high) refl,
     ))
 
@@ -177,7 +177,7 @@ module _ (u v : View) (s n : ℕ) (limits : Limits) where
         as_before : IsStill u v K → Goes v K.state K.other (Refused (fault.StoreFault m))
         as_before same = (
           K.other,
-          record { core = K; keeps = same.keeps; state = refl; change = refl; job = no_job; pins = no_pins; told = c.tells told; changed = changed; images = λ e. ends (IsNear K.state K.other) _ _ (same.any_moment (images (c.due e))) },
+          record { core = K; keeps = same.keeps; state = refl; change = refl; job = no_job; pins = pinned; told = c.tells told; changed = changed; images = λ e. ends (IsNear K.state K.other) _ _ (same.any_moment (images (c.due e))) },
           record {
             means = failed_means limits K.state s n m low;
             complete = λ all. inr (inr (inr refl));
@@ -192,7 +192,7 @@ module _ (u v : View) (s n : ℕ) (limits : Limits) where
         half_done : IsHalf u v (delete_change s n K.state) None (fault.StoreFault m) K → Goes v K.state K.other (Refused (fault.StoreFault m))
         half_done half = (
           half.other,
-          record { core = after_refused half.other None v.memo.strays v.pending K; keeps = half.keeps; state = refl; change = refl; job = refl; pins = no_pins; told = c.tells told; changed = valid_half half.other half.half; images = λ e. half.behind (images (c.due e)) },
+          record { core = after_refused half.other None v.memo.strays v.pending K; keeps = half.keeps; state = refl; change = refl; job = refl; pins = pinned; told = c.tells told; changed = valid_half half.other half.half; images = λ e. half.behind (images (c.due e)) },
           record {
             means = failed_means limits K.state s n m low;
             complete = λ all. inr (inr (inr refl));
@@ -243,22 +243,22 @@ causes_err u v latest s n f last later h = ⊎_elim below above (below_or_not n 
 
 -- ---- the whole
 
-pub deletes : (u v : View) (s n : ℕ) (result : Result Answer Fault) → Clauses u v s n result → DeletesLine (IsStateOf u) (IsStateOf v) (IsKnownStray u) (IsKnownStray v) s n u.told v.told result
-deletes u v s n (Ok a) c =
+pub deletes : (u v : View) (s n : ℕ) (result : Result Answer Fault) → Clauses u v s n result → (ps : List Pin) → DeletesLine (IsStateWith u ps) (IsStateWith v ps) (IsKnownStray u) (IsKnownStray v) s n u.told v.told result
+deletes u v s n (Ok a) c ps =
     let K : Core = c.core.0 in
     let is = (c.ok K c.core.1).1 in
     record {
       done = ap (λ (b : Answer). is_refused b) is;
       kind = λ limits. kind_done limits s n _ _ a is;
       causes = causes_done u v s n _ _ a is c.later;
-      steps = λ S other limits here. goes_from u v s n limits S other a here (done_goes u v s n limits here.core here.keeps here.job here.pins here.told (changed_of u S other here) (images_of u S other here) a c);
+      steps = λ S other limits here. goes_from u v ps s n limits S other a here (done_goes u v ps s n limits here.core here.keeps here.job here.pins here.told (changed_of u S other here) (images_of u S other here) a c);
     }
-deletes u v s n (Err f) c =
+deletes u v s n (Err f) c ps =
     let K : Core = c.core.0 in
     let last : latest_of K.state s ≤ n → f ≡ fault.LastVersion s n (latest_of K.state s) = λ high. ap (λ (r : Result Answer Fault). fault_or f r) (c.last K c.core.1 high) in
     record {
       done = tt;
       kind = λ limits. kind_err limits u.told.faults v.told.faults (latest_of K.state s) s n f last (c.cause K c.core.1);
       causes = causes_err u v (latest_of K.state s) s n f last c.later (c.cause K c.core.1);
-      steps = λ S other limits here. goes_from u v s n limits S other (Refused f) here (err_goes u v s n limits here.core here.keeps here.job here.pins here.told (changed_of u S other here) (images_of u S other here) f c);
+      steps = λ S other limits here. goes_from u v ps s n limits S other (Refused f) here (err_goes u v ps s n limits here.core here.keeps here.job here.pins here.told (changed_of u S other here) (images_of u S other here) f c);
     }

@@ -2,9 +2,11 @@
 //! that the keeper keeps (`Keeping`).
 #![tactic(auto)]
 
-ghost use Rattle.std.specs.Prelude.{◌≡◌, None};
+ghost use Rattle.std.specs.Prelude.{◌≡◌, ℕ, List, None};
+ghost use Rattle.vault_types.specs.Events.{Pin};
+ghost use Rattle.pin_laws.specs.Following.{Follows};
 ghost use Rattle.script_laws.specs.Calls.{DeletesLine};
-ghost use Rattle.serial_delete.specs.Keeping.{IsStateOf, IsKnownStray};
+ghost use Rattle.serial_delete.specs.Keeping.{IsStateWith, IsKnownStray};
 
 use keeper_core::Keeper;
 use vault_traits::Shelf;
@@ -19,8 +21,12 @@ pub fn delete_plain<S: Shelf>(
     through: Version,
 ) -> Result<Answer, Fault>
     requires { keeper.old.job ≡ None }
-    ensures line { DeletesLine (IsStateOf keeper.old) (IsStateOf keeper.new) (IsKnownStray keeper.old) (IsKnownStray keeper.new) set through keeper.old.told keeper.new.told result }
+    ensures line { (pins : List Pin) → DeletesLine (IsStateWith keeper.old pins) (IsStateWith keeper.new pins)
+        (IsKnownStray keeper.old) (IsKnownStray keeper.new) set through keeper.old.told keeper.new.told result }
     ensures same { (keeper.new.job ≡ None) × (keeper.new.pins ≡ keeper.old.pins) }
+
+    // Each pin stays, with its containers.
+    ensures follows { (number : ℕ) → Follows keeper.old keeper.new number }
 {
     keeper.keeps_some_core();
     keeper.delete_through(set, through)

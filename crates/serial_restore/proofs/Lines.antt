@@ -18,7 +18,7 @@ use Rattle.vault_types.specs.declared.Line.TheVariants.{Restore}
 use Rattle.vault_types.specs.Bytes.{bytes_of}
 use Rattle.vault_types.specs.Names.{fp, same_fp}
 use Rattle.vault_types.proofs.FillLemmas.{same_fps}
-use Rattle.vault_types.specs.Events.{Core, Change, IsNear, with_pins}
+use Rattle.vault_types.specs.Events.{Core, Change, IsNear, with_pins, Pin}
 use Rattle.vault_types.specs.Plans.{requests, IsLeast}
 use Rattle.vault_types.specs.Refusals.{is_of_state, may_refuse, refuses_by_state, IsExact}
 use Rattle.vault_types.specs.Script.{row_ids, after, is_refused, IsDone}
@@ -44,7 +44,7 @@ use Rattle.script_laws.specs.Table.{MeansLine, ShowsDamage}
 use Rattle.script_laws.proofs.Following.{near_with}
 use Rattle.script_laws.proofs.LineLemmas.{unmoved, not_kept_means, not_kept_is}
 use Rattle.vault_types.specs.declared.Pending.TheVariants as pending
-use Rattle.serial_delete.specs.Keeping.{IsStateOf, IsKnownStray}
+use Rattle.serial_delete.specs.Keeping.{IsStateWith, IsKnownStray}
 use Rattle.serial_delete.proofs.Keeping.{changed_of, images_of}
 use Rattle.serial_restore.specs.Going.{IsAtMostLeast, TakesFront}
 use Rattle.serial_restore.specs.Restoring.{IsRestoreFault, IsBadPayloadOf, IsWrongSumOf, IsLeft, HasGone}
@@ -152,21 +152,21 @@ module _ (limits : Limits) (S : State) (s n slots : ℕ) where
 
 -- ---- the line
 
-module _ (v x : View) (before now : SinkTold) (s n slots : ℕ) (limits : Limits) where
+module _ (v x : View) (ps : List Pin) (before now : SinkTold) (s n slots : ℕ) (limits : Limits) where
   -- what the line comes to, from this state
   abbrev Goes : View → State → Option Change → Answer → Type 0
   Goes w S other a =
-      (next : Option Change) × IsStateOf w (after (λ _. []) S (Restore s n [] slots) a) next
+      (next : Option Change) × IsStateWith w ps (after (λ _. []) S (Restore s n [] slots) a) next
       × StepsOn limits (λ _. []) S other (Restore s n [] slots) a next (IsKnownStray v) (IsKnownStray w) v.told w.told
 
-  goes_from : (S : State) (other : Option Change) (a : Answer) (is : IsStateOf v S other) → Goes x is.core.state is.core.other a → Goes x S other a
+  goes_from : (S : State) (other : Option Change) (a : Answer) (is : IsStateWith v ps S other) → Goes x is.core.state is.core.other a → Goes x S other a
   goes_from S other a is goes = subst (λ (T : State). Goes x T other a) is.state (subst (λ (o : Option Change). Goes x is.core.state o a) is.change goes)
 
-  module _ (K : Core) (keeps : Keeps v K) (no_job : K.job ≡ None) (no_pins : K.pins ≡ []) (told : IsSome v.told.blobs) (changed : IfSome K.other (λ h. IsValid h.state)) (images : v.pending ≡ pending.Not → LeavesNowIfTold v.told.history (IsNear K.state K.other)) where
-    state_is : IsLeft v x s n → IsStateOf x K.state K.other
+  module _ (K : Core) (keeps : Keeps v K) (no_job : K.job ≡ None) (pinned : K.pins ≡ ps) (told : IsSome v.told.blobs) (changed : IfSome K.other (λ h. IsValid h.state)) (images : v.pending ≡ pending.Not → LeavesNowIfTold v.told.history (IsNear K.state K.other)) where
+    state_is : IsLeft v x s n → IsStateWith x ps K.state K.other
     state_is left =
         let stayed = left.state K keeps in
-        record { core = with_pins K.pins stayed.strays K; keeps = stayed.keeps; state = refl; change = refl; job = no_job; pins = no_pins; told = left.tells told; changed = changed; images = λ e. ends (IsNear K.state K.other) _ _ (left.any_moment K keeps (images (keeps.pending ∙ sym stayed.keeps.pending ∙ e))) }
+        record { core = with_pins K.pins stayed.strays K; keeps = stayed.keeps; state = refl; change = refl; job = no_job; pins = pinned; told = left.tells told; changed = changed; images = λ e. ends (IsNear K.state K.other) _ _ (left.any_moment K keeps (images (keeps.pending ∙ sym stayed.keeps.pending ∙ e))) }
 
     module _ (k : KeptVersion) (there : version_of K.state s n ≡ Some k) (kept : is_kept K.state s n ≡ true) where
       rows_are : row_ids K.state s n ≡ map (λ r. r.id) k.rows
@@ -240,7 +240,7 @@ module _ (v x : View) (before now : SinkTold) (s n slots : ℕ) (limits : Limits
         subst (λ (w : View). Goes w K.state K.other (answer_of result)) (sym same)
         (subst (λ (r : Result Answer Fault). Goes v K.state K.other (answer_of r)) (sym is) (
           K.other,
-          record { core = K; keeps = keeps; state = refl; change = refl; job = no_job; pins = no_pins; told = told; changed = changed; images = images },
+          record { core = K; keeps = keeps; state = refl; change = refl; job = no_job; pins = pinned; told = told; changed = changed; images = images },
           unmoved limits (λ _. []) K.state K.other (Restore s n [] slots) (fault.NotKept s n (floor_of K.state s) (latest_of K.state s)) (IsKnownStray v) v.told
               (not_kept_means limits (λ _. []) K.state s n [] slots (floor_of K.state s) (latest_of K.state s) (sym kept) refl refl)
               (inr (inl (fault.NotKept s n (floor_of K.state s) (latest_of K.state s), not_kept_is limits K.state s n [] slots (floor_of K.state s) (latest_of K.state s) (sym kept) refl refl, refl))) refl,
@@ -268,12 +268,12 @@ module _ (v x : View) (before now : SinkTold) (s n slots : ℕ) (K : Core) (keep
 pub restores : (v x : View) (before now : SinkTold) (s n slots : ℕ) (result : Result Answer Fault) → HasCore v → s < 256
     → ((K : Core) → Keeps v K → is_kept K.state s n ≡ false → result ≡ Err (fault.NotKept s n (floor_of K.state s) (latest_of K.state s)))
     → ((K : Core) → Keeps v K → is_kept K.state s n ≡ false → (x ≡ v) × (now ≡ before))
-    → HasGone v x before now s n slots result → RestoresLine (IsStateOf v) (IsStateOf x) (IsKnownStray v) (IsKnownStray x) s n slots v.told x.told before now result
-restores v x before now s n slots result core range exact still gone = record {
+    → HasGone v x before now s n slots result → (ps : List Pin) → RestoresLine (IsStateWith v ps) (IsStateWith x ps) (IsKnownStray v) (IsKnownStray x) s n slots v.told x.told before now result
+restores v x before now s n slots result core range exact still gone ps = record {
   done = done result gone.kind;
   kind = λ limits. fitting limits result gone.kind gone.cause;
   causes = rising result gone.kind gone.cause;
-  steps = λ S other limits here. goes_from v x before now s n slots limits S other (answer_of result) here (steps_in limits here.core here.keeps here.job here.pins here.told (changed_of v S other here) (images_of v S other here) (is_kept here.core.state s n) refl);
+  steps = λ S other limits here. goes_from v x ps before now s n slots limits S other (answer_of result) here (steps_in limits here.core here.keeps here.job here.pins here.told (changed_of v S other here) (images_of v S other here) (is_kept here.core.state s n) refl);
   written = λ S other here. subst (λ (T : State). HasWritten T s n (answer_of result) before.taken now.taken) here.state (written_in here.core here.keeps here.told (is_kept here.core.state s n) refl);
   short = λ S other here. subst (λ (T : State). IfErr result (IsShortAt (bytes_of T s n) before.taken now.taken)) here.state (short_in here.core here.keeps here.told (is_kept here.core.state s n) refl);
 }
@@ -291,11 +291,11 @@ restores v x before now s n slots result core range exact still gone = record {
     rising (Ok a) is cause = causes_done v x before now core.0.state s n slots gone.left.later gone.sink is.0 is.1 a is.2
     rising (Err f) is cause = causes_err v x before now core.0.state s n slots gone.left.later gone.sink f (cause core.0 core.1)
 
-    steps_in : (limits : Limits) (K : Core) → Keeps v K → K.job ≡ None → K.pins ≡ [] → IsSome v.told.blobs → IfSome K.other (λ h. IsValid h.state) → (v.pending ≡ pending.Not → LeavesNowIfTold v.told.history (IsNear K.state K.other)) → (b : Bool) → is_kept K.state s n ≡ b → Goes v x before now s n slots limits x K.state K.other (answer_of result)
-    steps_in limits K keeps no_job no_pins told changed images true kept =
+    steps_in : (limits : Limits) (K : Core) → Keeps v K → K.job ≡ None → K.pins ≡ ps → IsSome v.told.blobs → IfSome K.other (λ h. IsValid h.state) → (v.pending ≡ pending.Not → LeavesNowIfTold v.told.history (IsNear K.state K.other)) → (b : Bool) → is_kept K.state s n ≡ b → Goes v x ps before now s n slots limits x K.state K.other (answer_of result)
+    steps_in limits K keeps no_job pinned told changed images true kept =
         let k = version_there K.state s n keeps.core.state kept in
-        kept_goes v x before now s n slots limits K keeps no_job no_pins told changed images k.0 k.1 kept (let sets = keeps.core.state.sets in omega (arith, range, sets)) result gone
-    steps_in limits K keeps no_job no_pins told changed images false kept = not_kept_goes v x before now s n slots limits K keeps no_job no_pins told changed images result kept (exact K keeps kept) (still K keeps kept).0
+        kept_goes v x ps before now s n slots limits K keeps no_job pinned told changed images k.0 k.1 kept (let sets = keeps.core.state.sets in omega (arith, range, sets)) result gone
+    steps_in limits K keeps no_job pinned told changed images false kept = not_kept_goes v x ps before now s n slots limits K keeps no_job pinned told changed images result kept (exact K keeps kept) (still K keeps kept).0
 
     written_in : (K : Core) → Keeps v K → IsSome v.told.blobs → (b : Bool) → is_kept K.state s n ≡ b → HasWritten K.state s n (answer_of result) before.taken now.taken
     written_in K keeps told true kept =
@@ -321,12 +321,12 @@ restores v x before now s n slots result core range exact still gone = record {
 -- the two ends of a restore
 
 pub not_kept_line : (v : View) (told : SinkTold) (s n slots floor latest : ℕ) → HasCore v → s < 256 → ((K : Core) → Keeps v K → false ≡ is_kept K.state s n) → ((K : Core) → Keeps v K → floor ≡ floor_of K.state s) → ((K : Core) → Keeps v K → latest ≡ latest_of K.state s)
-    → RestoresLine (IsStateOf v) (IsStateOf v) (IsKnownStray v) (IsKnownStray v) s n slots v.told v.told told told (Err (fault.NotKept s n floor latest))
+    → (ps : List Pin) → RestoresLine (IsStateWith v ps) (IsStateWith v ps) (IsKnownStray v) (IsKnownStray v) s n slots v.told v.told told told (Err (fault.NotKept s n floor latest))
 not_kept_line v told s n slots floor latest core range kept low high =
     let gone = not_kept_gone v told s n slots floor latest kept low high in
     restores v v told told s n slots (Err (fault.NotKept s n floor latest)) core range (λ K keeps other. ap (λ (f : Fault). Err f) (gone.cause K keeps).1) (λ K keeps other. (refl, refl)) gone
 
 pub kept_line : (v x : View) (before now : SinkTold) (s n slots : ℕ) (result : Result Answer Fault) → HasCore v → s < 256 → ((K : Core) → Keeps v K → true ≡ is_kept K.state s n) → HasGone v x before now s n slots result
-    → RestoresLine (IsStateOf v) (IsStateOf x) (IsKnownStray v) (IsKnownStray x) s n slots v.told x.told before now result
+    → (ps : List Pin) → RestoresLine (IsStateWith v ps) (IsStateWith x ps) (IsKnownStray v) (IsKnownStray x) s n slots v.told x.told before now result
 kept_line v x before now s n slots result core range kept gone =
     restores v x before now s n slots result core range (λ K keeps other. clash (is_kept K.state s n) (sym (kept K keeps)) other) (λ K keeps other. clash (is_kept K.state s n) (sym (kept K keeps)) other) gone

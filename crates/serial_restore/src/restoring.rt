@@ -1,13 +1,13 @@
 //! A version, from its pin to its release.
-ghost use Rattle.std.specs.Prelude.{◌≡◌, ◌≤◌, ℕ, false, IfOk, IfErr, OnErr, Err};
+ghost use Rattle.std.specs.Prelude.{◌≡◌, ◌≤◌, ℕ, List, false, IfOk, IfErr, OnErr, Err};
 ghost use Rattle.std.specs.Option.{option_map};
 ghost use Rattle.vault_types.specs.declared.Fault.TheVariants as fault;
-ghost use Rattle.vault_types.specs.Events.{Core, IsNear};
+ghost use Rattle.vault_types.specs.Events.{Core, IsNear, Pin};
 ghost use Rattle.vault_types.specs.State.{KeptVersion, floor_of, latest_of, is_kept, version_of};
 ghost use Rattle.vault_traits.specs.Crash.{LeavesNowIfTold, LeavesOnlyIfTold};
 ghost use Rattle.keeper_catalog.specs.View.{Keeps};
 ghost use Rattle.script_laws.specs.Calls.{RestoresLine};
-ghost use Rattle.serial_delete.specs.Keeping.{IsStateOf, IsKnownStray};
+ghost use Rattle.serial_delete.specs.Keeping.{IsStateWith, IsKnownStray};
 ghost use Rattle.serial_restore.specs.Restoring.{whole_of as whole_is, IsRestoreFault, HasStayed, IsRestored, IsCut, WhereTold, HasGone};
 
 use crate::copying::copy_pinned;
@@ -98,7 +98,9 @@ pub fn restore_plain<S: Shelf, O: Sink>(
     ensures err { OnErr result (WhereTold keeper.old set version (λ K k. IsCut keeper.old keeper.new (O.told sink.old) (O.told sink.new) K set version k slots)) }
 
     // What a line of a script is to do, in each state that the keeper keeps.
-    ensures line { RestoresLine (IsStateOf keeper.old) (IsStateOf keeper.new) (IsKnownStray keeper.old) (IsKnownStray keeper.new) set version slots keeper.old.told keeper.new.told (O.told sink.old) (O.told sink.new) result }
+    ensures line { (pins : List Pin) → RestoresLine (IsStateWith keeper.old pins) (IsStateWith keeper.new pins)
+        (IsKnownStray keeper.old) (IsKnownStray keeper.new) set version slots keeper.old.told keeper.new.told
+        (O.told sink.old) (O.told sink.new) result }
 {
     keeper.keeps_some_core();
     if !keeper.kept(set, version) {

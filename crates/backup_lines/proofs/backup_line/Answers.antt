@@ -1,3 +1,4 @@
+use Rattle.backup_lines.proofs.Following.{backup_follows}
 use Rattle.backup_lines.proofs.Lines.{backs_up_line}
 use Rattle.backup_lines.proofs.backup_line.Goals as goal
 
@@ -6,3 +7,6 @@ returns-clause-line g c = backs_up_line _ _ _ _ _ _ _ _ c.keeps_some_core.ensure
 
 pub returns-clause-same : goal.returns-clause-same
 returns-clause-same g c = (c.backup_plain.ensures.idle, c.backup_plain.ensures.pins)
+
+pub returns-clause-follows : goal.returns-clause-follows
+returns-clause-follows g c = backup_follows _ _ _ _ _ _ _ _ c.backup_plain.ensures

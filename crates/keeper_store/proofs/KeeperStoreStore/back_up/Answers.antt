@@ -1,4 +1,4 @@
-use Rattle.std.proofs.Common.{subst}
+use Rattle.std.proofs.Common.{[], subst}
 use Rattle.keeper_catalog.specs.View.{View}
 use Rattle.script_laws.specs.Calls.{BacksUpLine}
 use Rattle.serial_delete.specs.Keeping.{IsStateOf, IsKnownStray}
@@ -8,4 +8,4 @@ pub returns : goal.returns
 returns g c =
     let w = c.backup_line.new.keeper in
     subst (λ (v : View). BacksUpLine (λ S other. IsStateOf v S other) (λ S other. IsStateOf w S other) (λ n. IsKnownStray v n) (λ n. IsKnownStray w n) c.args.limits.now c.args.set c.args.config.now v.told w.told (g.I.Source.told c.args.source.now) (g.I.Source.told c.backup_line.new.source) c.backup_line.result)
-    c.self.view_is c.backup_line.ensures.line
+    c.self.view_is (c.backup_line.ensures.line [])

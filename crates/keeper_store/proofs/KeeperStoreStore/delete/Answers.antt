@@ -1,4 +1,4 @@
-use Rattle.std.proofs.Common.{subst}
+use Rattle.std.proofs.Common.{[], subst}
 use Rattle.keeper_catalog.specs.View.{View}
 use Rattle.script_laws.specs.Calls.{DeletesLine}
 use Rattle.serial_delete.specs.Keeping.{IsStateOf, IsKnownStray}
@@ -8,4 +8,4 @@ pub returns : goal.returns
 returns g c =
     let w = c.delete_plain.new.keeper in
     subst (λ (v : View). DeletesLine (λ S other. IsStateOf v S other) (λ S other. IsStateOf w S other) (λ n. IsKnownStray v n) (λ n. IsKnownStray w n) c.args.set c.args.through v.told w.told c.delete_plain.result)
-    c.self.view_is c.delete_plain.ensures.line
+    c.self.view_is (c.delete_plain.ensures.line [])

@@ -204,6 +204,13 @@ impl Pass {
         }
     }
 
+    /// How many chunks it takes at most.
+    pub fn limit(&self) -> u32
+        ensures { result ≡ self.now.limit }
+    {
+        self.limit
+    }
+
     /// The index as it was handed in.
     pub fn end(self) -> Index
         ensures { result ≡ index_in self }

@@ -1,5 +1,5 @@
 -- A backup while it is under way.
-use Rattle.std.specs.Prelude.{◌≡◌, ◌⊎◌, ◌≤◌, ◌<◌, ◌+◌, ◌-◌, ◌^◌, ℕ, nat_lt, if◌then◌else◌, slice_get, unwrap_or, option_to_list, List, [], ◌∷◌, ◌++◌, map, length, sum_by, Contains, Some, None, option_map, IsSome}
+use Rattle.std.specs.Prelude.{◌≡◌, ◌⊎◌, ◌≤◌, ◌<◌, ◌+◌, ◌-◌, ◌*◌, ◌^◌, ℕ, nat_lt, if◌then◌else◌, slice_get, unwrap_or, option_to_list, List, [], ◌∷◌, ◌++◌, map, length, sum_by, Contains, Some, None, option_map, IsSome}
 use Rattle.vault_types.specs.declared.Fp.{Fp}
 use Rattle.vault_types.specs.declared.Name.{Name}
 use Rattle.vault_types.specs.declared.JobConfig.{JobConfig}
@@ -147,6 +147,7 @@ IsTooManyInAll b read f = IsPassFault b.limits.chunks (length (cuts read b.confi
 -- the bytes that were read went through the pass
 pub record IsGoing (b : Began) (now : View) (to : SourceTold) (pass : Pass) (lens read : List ℕ) : Type 0 where
   pub given : Gives b.source.left to.left read
+  pub within : length read ≤ b.limits.chunks * 65536 + 65536
   pub source_later : b.source.faults ≤ to.faults
   pub fed : IsFed b now pass lens read
 
@@ -161,6 +162,7 @@ pub record HasGone (b : Began) (now : View) (to : SourceTold) (pass : Pass) (len
 pub record IsStopped (b : Began) (now : View) (to : SourceTold) (f : Fault) : Type 0 where
   pub read : List ℕ
   pub given : Gives b.source.left to.left read
+  pub within : length read ≤ b.limits.chunks * 65536 + 65536
   pub source_later : b.source.faults ≤ to.faults
   pub containers : List Container
   pub underway : IsUnderway b now containers
@@ -214,6 +216,7 @@ pub record IsReady (b : Began) (now : View) (read : List ℕ) (p : Recipe × Ans
 pub record HasConcluded (b : Began) (now : View) (to : SourceTold) (p : Recipe × Answer) : Type 0 where
   pub read : List ℕ
   pub given : Gives b.source.left to.left read
+  pub within : length read ≤ b.limits.chunks * 65536 + 65536
   pub source_later : b.source.faults ≤ to.faults
   pub end : IsAtEnd to
   pub few : length (cuts read b.config.cutting) ≤ b.limits.chunks

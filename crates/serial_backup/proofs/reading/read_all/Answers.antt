@@ -8,12 +8,12 @@ pub returns-in_err-n-clause-err : goal.returns-in_err-n-clause-err
 returns-in_err-n-clause-err g c b start =
     let h = c.loop-count.invariant.going b start in
     stopped_again (IsStopped b c.advance.new.keeper (g.I.Source.told c.advance.new.source)) c.from_residual-in_err-n.result c.in_err-n.field-0.0 c.from_residual-in_err-n.ensures.1
-    (c.in_err-n.ensures.err b h.0 h.1 (omega (arith, h.2, c.loop-count-test.true, c.limit.ensures, start.fed.passed.most_is)))
+    (c.in_err-n.ensures.err b h.0 h.1 (omega (arith, h.2, c.loop-count-test.true, c.limit-limit.ensures, c.from-most.ensures, start.fed.passed.most_is)))
 
 pub returns-then-n-eq0-clause-ok : goal.returns-then-n-eq0-clause-ok
 returns-then-n-eq0-clause-ok g c b start =
     let h = c.loop-count.invariant.going b start in
-    let gone = c.in_ok-n.ensures.ok b h.0 h.1 (omega (arith, h.2, c.loop-count-test.true, c.limit.ensures, start.fed.passed.most_is)) in
+    let gone = c.in_ok-n.ensures.ok b h.0 h.1 (omega (arith, h.2, c.loop-count-test.true, c.limit-limit.ensures, c.from-most.ensures, start.fed.passed.most_is)) in
     (h.0 ++ gone.piece, gone.going, gone.end (omega (arith, c.if-n-eq0.true)))
 
 pub loop-count-preserved : goal.loop-count-preserved
@@ -21,7 +21,7 @@ loop-count-preserved g c = record {
   room = c.in_ok-n.ensures.room ∙ c.loop-count.invariant.room;
   index = c.in_ok-n.ensures.index ∙ c.loop-count.invariant.index;
   going = λ b start. let h = c.loop-count.invariant.going b start in
-      let gone = c.in_ok-n.ensures.ok b h.0 h.1 (omega (arith, h.2, c.loop-count-test.true, c.limit.ensures, start.fed.passed.most_is)) in
+      let gone = c.in_ok-n.ensures.ok b h.0 h.1 (omega (arith, h.2, c.loop-count-test.true, c.limit-limit.ensures, c.from-most.ensures, start.fed.passed.most_is)) in
       (h.0 ++ gone.piece, gone.going, omega (arith, h.2, gone.len, length-append h.0 gone.piece));
 }
 
@@ -31,4 +31,4 @@ advance-requires-clause-going g c = let h = c.loop-count.invariant.going c.requi
 pub returns-clause-err : goal.returns-clause-err
 returns-clause-err g c b start =
     let h = c.loop-count.invariant.going b start in
-    many_stop b _ _ _ _ h.0 h.1 c.limit.result (c.limit.ensures ∙ start.fed.passed.most_is) (omega (arith, h.2, c.loop-count-test.false, c.limit.ensures, start.fed.passed.most_is))
+    many_stop b _ _ _ _ h.0 h.1 c.limit-limit.result (c.limit-limit.ensures ∙ start.fed.passed.most_is) (omega (arith, h.2, c.loop-count-test.false, c.limit-limit.ensures, c.from-most.ensures, start.fed.passed.most_is))

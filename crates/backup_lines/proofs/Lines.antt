@@ -21,7 +21,7 @@ use Rattle.vault_traits.specs.Counts.{Rose}
 use Rattle.vault_traits.specs.Crash.{History, LeavesNowIfTold, LeavesOnlyIfTold}
 use Rattle.vault_traits.specs.Told.{SourceTold}
 use Rattle.vault_traits.proofs.Moments.{more, more_now}
-use Rattle.backup_pass.specs.Passing.{IsCuttable}
+use Rattle.stream_cutter.specs.Cutters.{IsCuttable}
 use Rattle.keeper_catalog.specs.View.{View, Keeps, HasCore}
 use Rattle.keeper_core.specs.Calls.{IsShelfFault}
 use Rattle.script_laws.specs.Calls.{BacksUpLine}

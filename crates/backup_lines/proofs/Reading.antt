@@ -10,9 +10,10 @@ use Rattle.vault_types.specs.Lists.{parts, rest}
 use Rattle.vault_types.specs.Cuts.{cuts, settled, settled_len, unsettled, only_bytes}
 use Rattle.vault_types.proofs.PartsLemmas.{parts-append}
 use Rattle.vault_traits.specs.Told.{SourceTold, Gives}
-use Rattle.backup_pass.specs.Passing.{IsCuttable}
-use Rattle.backup_pass.proofs.Sizes.{stable}
+use Rattle.stream_cutter.specs.Cutters.{IsCuttable}
+use Rattle.stream_cutter.proofs.Sizes.{stable}
 use Rattle.serial_backup.specs.Backup.{IsAtEnd, IsBackupFault}
+use Rattle.serial_backup.proofs.Limits.{too_many_bytes}
 
 -- the settled chunks of a front are no more than the chunks of the whole
 settled_few : (c : Cutting) → IsCuttable c → (x y : List ℕ) → length (settled x c) ≤ length (cuts (x ++ y) c)
@@ -44,5 +45,11 @@ module _ (from to : SourceTold) (x read : List ℕ) (left : from.left ≡ Some x
       let front = front_of x read to.left (sym left ∙ given) in
       let many : limits.chunks < length (cuts (read ++ front.0) config.cutting) = omega (arith, more, settled_few config.cutting can read front.0) in
       subst (λ (z : List ℕ). limits.chunks < length (cuts z config.cutting)) (sym front.1) many)
+      (λ others. ⊎_elim
       (λ more. subst (λ (z : List ℕ). limits.chunks < length (cuts z config.cutting)) (whole_read more.0) more.1)
+      (λ bytes.
+      let front = front_of x read to.left (sym left ∙ given) in
+      let all : length x ≡ length (read ++ front.0) = ap length front.1 in
+      too_many_bytes config.cutting x limits.chunks can (omega (arith, bytes, all, length-append read front.0)))
+      others)
       why.1

@@ -15,7 +15,7 @@ use Rattle.backup_pass.specs.declared.placer.Placer.{Placer}
 use Rattle.backup_pass.specs.declared.pass.Pass.{Pass}
 use Rattle.backup_pass.specs.Placing.{HasPlaced}
 use Rattle.backup_pass.specs.Passing.{HasPassed, IsPassFault, bytes_of_all}
-use Rattle.backup_pass.proofs.Sizes.{settled_chunks, last_chunks}
+use Rattle.stream_cutter.proofs.Sizes.{settled_chunks, last_chunks}
 
 -- one vector more
 

@@ -1,3 +1,2 @@
 pub mod Placing
 pub mod Passing
-pub mod Cutters

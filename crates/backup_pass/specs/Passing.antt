@@ -1,9 +1,7 @@
 -- A pass over a stream.
 use Rattle.std.specs.Prelude.{◌≡◌, ◌≤◌, ◌<◌, ℕ, List, map, length, Option, Vec}
 use Rattle.vault_types.specs.declared.Fp.{Fp}
-use Rattle.vault_types.specs.declared.Cutting.{Cutting}
 use Rattle.vault_types.specs.declared.JobConfig.{JobConfig}
-use Rattle.vault_types.specs.declared.Cutting.TheVariants.{Fixed, Ae}
 use Rattle.vault_types.specs.declared.Fault.{Fault}
 use Rattle.vault_types.specs.declared.Fault.TheVariants as fault
 use Rattle.vault_types.specs.Cuts.{HasCut}
@@ -11,13 +9,9 @@ use Rattle.vault_types.specs.Names.{named_chunk}
 use Rattle.vault_types.specs.Tables.{Container}
 use Rattle.vault_types.specs.Decide.{Rules}
 use Rattle.fingerprint_stage.specs.Sums.{HasSummed}
+use Rattle.stream_cutter.specs.Cutters.{IsCuttable}
 use Rattle.backup_pass.specs.Placing.{HasPlaced, answers_of, index_of}
 use Rattle.backup_pass.specs.declared.pass.Pass.{Pass}
-
--- a cutting by a size of 1 to 65,536 bytes, or by a window of at least one byte below a greatest length of up to 65,536
-abbrev pub IsCuttable : Cutting → Type 0
-IsCuttable (Fixed size) = (1 ≤ size) × (size ≤ 65536)
-IsCuttable (Ae window most) = (1 ≤ window) × (window < most) × (most ≤ 65536)
 
 -- the settings of a backup are in their ranges
 pub record IsInRange (config : JobConfig) : Type 0 where

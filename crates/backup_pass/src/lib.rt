@@ -3,7 +3,6 @@
 //! rows of the version.
 #![tactic(auto)]
 
-mod cutter;
 mod pass;
 mod placer;
 #[cfg(test)]

@@ -9,15 +9,16 @@ ghost use Rattle.vault_types.specs.Stages.{is_chunk};
 ghost use Rattle.fp_index.specs.Index.{found_in};
 ghost use Rattle.container_fill.specs.Filling.{IsFilledBy};
 ghost use Rattle.backup_pass.specs.Placing.{HasPlaced, answers_of, index_of};
-ghost use Rattle.backup_pass.specs.Passing.{HasPassed, IsCuttable, IsPassFault, answers_in, index_in, bytes_of_all};
+ghost use Rattle.backup_pass.specs.Passing.{HasPassed, IsPassFault, answers_in, index_in, bytes_of_all};
+ghost use Rattle.stream_cutter.specs.Cutters.{IsCuttable};
 
 use crate::Placer;
-use crate::cutter::Cutter;
 use container_fill::Filled;
 use container_store::Sealed;
 use fingerprint_stage::{Chunk, RunningSum, name};
 use fp_index::Index;
 use std::alloc::Global;
+use stream_cutter::Cutter;
 use vault_types::{Fault, Fp, Id, JobConfig, Memory};
 
 /// A backup's pass over its stream.
@@ -201,6 +202,13 @@ impl Pass {
                 }
             }
         }
+    }
+
+    /// How many chunks it takes at most.
+    pub fn limit(&self) -> u32
+        ensures { result ≡ self.now.limit }
+    {
+        self.limit
     }
 
     /// The index as it was handed in.

@@ -43,7 +43,7 @@ fn fill_all(
 {
     for one in decided {
         match filler.push(alloc, one)? {
-            Some(sealed) => out.push(sealed)?,
+            Some(unsealed) => out.push(unsealed.seal())?,
             None => {}
         }
     }
@@ -128,7 +128,7 @@ impl Placer {
         } = self;
         match place_segment(alloc, &mut decider, &mut filler, segment, out) {
             Err(Memory) => (decider.end(), Err(Memory)),
-            Ok(()) => (decider.end(), filler.finish()),
+            Ok(()) => (decider.end(), Ok(filler.finish())),
         }
     }
 

@@ -46,13 +46,13 @@ fn back_up(
     let decided = decider.segment(alloc, chunks_of(alloc, letters)?)?;
     let mut index = decider.end();
     for one in decided {
-        if let Some(sealed) = filler.push(alloc, one)? {
-            index.add_container(alloc, sealed.table())?;
+        if let Some(unsealed) = filler.push(alloc, one)? {
+            index.add_container(alloc, unsealed.seal().table())?;
         }
     }
-    let filled = filler.finish()?;
-    if let Some(sealed) = &filled.last {
-        index.add_container(alloc, sealed.table())?;
+    let mut filled = filler.finish();
+    if let Some(unsealed) = filled.last.take() {
+        index.add_container(alloc, unsealed.seal().table())?;
     }
     Ok((index, filled))
 }
@@ -112,7 +112,7 @@ fn a_stream_becomes_a_container_and_rows(rt: HostRuntime) -> Result<(), Fail> {
     assert_eq!(rt; filled.rows.as_slice().len(), 3);
     assert_eq!(rt; filled.containers, 1);
     assert_eq!(rt; filled.written, 6);
-    let last = filled.last.ok_or("no container")?;
+    let last = filled.last.ok_or("no container")?.seal();
     assert_eq!(rt; last.payload(), b"abcdab".as_slice());
     Ok(())
 }

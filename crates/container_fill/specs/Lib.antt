@@ -1,3 +1,4 @@
 pub mod Opened
 pub mod Carried
 pub mod Filling
+pub mod Fields

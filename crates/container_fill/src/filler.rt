@@ -8,7 +8,7 @@ ghost use Rattle.container_fill.specs.Opened.{bytes_in};
 ghost use Rattle.container_fill.specs.Carried.{carried, row_how, AreInTurn};
 
 use crate::open::Open;
-use container_store::Sealed;
+use crate::unsealed::Unsealed;
 use fingerprint_stage::Chunk;
 use rewrite_stage::Decided;
 use std::alloc::Global;
@@ -21,7 +21,7 @@ use vault_types::{Fp, How, Id, Memory, Row};
 /// the last container; how many containers there are, and how many bytes they have.
 #[derive(Drop)]
 pub struct Filled {
-    pub last: Option<Sealed>,
+    pub last: Option<Unsealed>,
     pub rows: ListOf<Row>,
     pub next: Id,
     pub containers: u64,
@@ -41,15 +41,15 @@ pub struct Filler {
 }
 
 impl Model for Filler {
-    ghost use Rattle.std.specs.Option.{option_map_or};
-    ghost use Rattle.std.specs.Prelude.{[]};
     ghost use Rattle.container_fill.specs.Filling.{Filling, IsFilling};
 
     ghost Value = { Filling };
 
-    ghost view = { λ f. record { capacity = f.capacity; next = f.next; held = option_map_or (λ o. o) f.open []; taken = f.taken.entries; rows = f.rows.items; containers = f.containers; written = f.written } };
+    ghost use Rattle.container_fill.specs.Fields.{filling_in};
 
-    ghost invariant = { λ f. IsFilling (record { capacity = f.capacity; next = f.next; held = option_map_or (λ o. o) f.open []; taken = f.taken.entries; rows = f.rows.items; containers = f.containers; written = f.written }) };
+    ghost view = { filling_in };
+
+    ghost invariant = { λ f. IsFilling (filling_in f) };
 }
 
 impl Filler {
@@ -79,7 +79,7 @@ impl Filler {
     /// Takes the next chunk, and gives out the container that is full. A chunk that is not old is written where this
     /// filler has not yet written its fingerprint; else its row names the container that took it. A chunk larger than
     /// the capacity is a container by itself. After `Memory` the filler is only dropped.
-    pub fn push(&mut self, alloc: Global, decided: Decided) -> Result<Option<Sealed>, Memory>
+    pub fn push(&mut self, alloc: Global, decided: Decided) -> Result<Option<Unsealed>, Memory>
         ensures filled { IfOk result (λ given. (first : ℕ) (gone : List Container) (chunks : List NamedChunk) (hows : List How)
             → HasFilled self.old first gone chunks hows
             → HasFilled self.new first (gone ++ option_to_list given) (chunks ++ named_chunk decided.chunk ∷ []) (hows ++ decided.how ∷ [])) }
@@ -124,17 +124,17 @@ impl Filler {
     }
 
     /// Gives out the container that is still held, and the rows.
-    pub fn finish(self) -> Result<Filled, Memory>
-        ensures filled { IfOk result (λ filled. (first : ℕ) (gone : List Container) (chunks : List NamedChunk) (hows : List How)
+    pub fn finish(self) -> Filled
+        ensures filled { (first : ℕ) (gone : List Container) (chunks : List NamedChunk) (hows : List How)
             → HasFilled self first gone chunks hows
-            → IsFilledBy (option_to_list filled.last) filled.rows filled.next filled.containers filled.written first gone (length chunks) (fill first chunks (carried chunks hows) self.capacity)) }
+            → IsFilledBy (option_to_list result.last) result.rows result.next result.containers result.written first gone (length chunks) (fill first chunks (carried chunks hows) self.capacity) }
 
         // Decisions in which an own write has an earlier write, and a write has none, are carried out as they are.
-        ensures in_turn { IfOk result (λ filled. (first : ℕ) (gone : List Container) (chunks : List NamedChunk) (hows : List How)
+        ensures in_turn { (first : ℕ) (gone : List Container) (chunks : List NamedChunk) (hows : List How)
             → HasFilled self first gone chunks hows → AreInTurn chunks hows
-            → IsFilledBy (option_to_list filled.last) filled.rows filled.next filled.containers filled.written first gone (length chunks) (fill first chunks hows self.capacity)) }
-        ensures id { IfOk result (λ filled. IfSome filled.last (λ s. s.table.id ≡ self.next)) }
-        ensures next { IfOk result (λ filled. filled.next ≡ self.next + length (option_to_list filled.last)) }
+            → IsFilledBy (option_to_list result.last) result.rows result.next result.containers result.written first gone (length chunks) (fill first chunks hows self.capacity) }
+        ensures id { IfSome result.last (λ s. s.table.id ≡ self.next) }
+        ensures next { result.next ≡ self.next + length (option_to_list result.last) }
     {
         let mut filler = self;
         let last = filler.close();
@@ -147,13 +147,13 @@ impl Filler {
             containers,
             written,
         } = filler;
-        Ok(Filled {
+        Filled {
             last,
             rows: ListOf::from_vec(rows),
             next,
             containers,
             written,
-        })
+        }
     }
 
     /// Whether this filler has written the fingerprint.
@@ -178,7 +178,7 @@ impl Filler {
     }
 
     // Gives out the container that is held, where a chunk of this length does not fit into it.
-    fn make_room(&mut self, len: u32) -> Option<Sealed>
+    fn make_room(&mut self, len: u32) -> Option<Unsealed>
         requires { len ≤ 65536 }
         ensures filler { self.new ≡ roomed self.old len }
         ensures given { option_to_list result ≡ given_for self.old len }
@@ -202,7 +202,7 @@ impl Filler {
     }
 
     // Gives out the container that is held.
-    fn close(&mut self) -> Option<Sealed>
+    fn close(&mut self) -> Option<Unsealed>
         ensures filler { self.new ≡ closed self.old }
         ensures given { option_to_list result ≡ opened self.old.next self.old.held }
     {
@@ -210,7 +210,7 @@ impl Filler {
         let id = self.next;
         self.next += 1;
         self.containers = self.containers.saturating_add(1);
-        Some(open.seal(id))
+        Some(open.close(id))
     }
 
     // Writes a chunk that fits into the container that is held.

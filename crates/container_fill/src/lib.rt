@@ -5,5 +5,7 @@ mod filler;
 mod open;
 #[cfg(test)]
 mod tests;
+mod unsealed;
 
 pub use filler::{Filled, Filler};
+pub use unsealed::Unsealed;

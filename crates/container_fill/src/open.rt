@@ -4,6 +4,7 @@ ghost use Rattle.std.specs.List.{list_any};
 ghost use Rattle.vault_types.specs.Names.{fp, same_fp, named_chunk};
 ghost use Rattle.vault_types.specs.Fill.{new_container};
 
+use crate::unsealed::Unsealed;
 use container_store::Sealed;
 use fingerprint_stage::{Chunk, sum};
 use std::alloc::Global;
@@ -67,6 +68,17 @@ impl Open {
         rows.push(row_of(chunk))?;
         payload.extend_from_slice(chunk.bytes())?;
         Ok(Open { rows, payload })
+    }
+
+    // The container, which takes no chunk more.
+    pub(crate) fn close(self, id: Id) -> Unsealed
+        requires { 1 ≤ id }
+        ensures is { result ≡ new_container id (map named_chunk self) }
+        ensures some { 1 ≤ length self }
+    {
+        // it has at least one chunk
+        let _len = self.payload.len();
+        Unsealed { open: self, id }
     }
 
     // The container as it is put.

@@ -1,7 +1,6 @@
 ghost use Rattle.std.specs.Prelude.{◌≤◌};
 
 use super::*;
-use container_store::Sealed;
 use fingerprint_stage::name;
 use rewrite_stage::Decided;
 use std::alloc::Global;
@@ -14,7 +13,7 @@ fn push(
     byte: u8,
     len: usize,
     how: How,
-) -> Result<Option<Sealed>, Memory>
+) -> Result<Option<Unsealed>, Memory>
     requires some { 1 ≤ len }
     requires most { len ≤ 65536 }
 {
@@ -29,11 +28,13 @@ fn a_chunk_that_does_not_fit_begins_a_container(rt: HostRuntime) -> Result<(), F
     assert_eq!(rt; none.is_none(), true);
     let none = push(rt.alloc(), &mut filler, 2, 40, How::Write)?;
     assert_eq!(rt; none.is_none(), true);
-    let first = push(rt.alloc(), &mut filler, 3, 1, How::Write)?.ok_or("none")?;
+    let first = push(rt.alloc(), &mut filler, 3, 1, How::Write)?
+        .ok_or("none")?
+        .seal();
     assert_eq!(rt; first.table().id, 1);
     assert_eq!(rt; first.payload().len(), 100);
-    let filled = filler.finish()?;
-    let last = filled.last.ok_or("none")?;
+    let filled = filler.finish();
+    let last = filled.last.ok_or("none")?.seal();
     assert_eq!(rt; last.table().id, 2);
     assert_eq!(rt; last.payload().len(), 1);
     assert_eq!(rt; filled.next, 3);
@@ -59,7 +60,7 @@ fn rows_name_the_container_that_has_the_chunk(rt: HostRuntime) -> Result<(), Fai
     assert!(rt; filler.has_written(&fp));
     filler.row(&fp, 2, None)?;
     filler.row(&fp, 2, Some(3))?;
-    let filled = filler.finish()?;
+    let filled = filler.finish();
     let rows = filled.rows.as_slice();
     assert_eq!(rt; rows.len(), 6);
     assert_eq!(rt; rows[0].id, 4);

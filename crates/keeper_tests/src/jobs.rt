@@ -92,10 +92,11 @@ fn seal(alloc: Global, id: Id, payload: &[u8]) -> Result<Sealed, Fault>
             },
         )?;
     }
-    let Filled { last, .. } = filler.finish()?;
-    let Some(sealed) = last else {
+    let Filled { last, .. } = filler.finish();
+    let Some(unsealed) = last else {
         return Err(Fault::Usage);
     };
+    let sealed = unsealed.seal();
     if sealed.table().id != id {
         return Err(Fault::Usage);
     }

@@ -23,8 +23,9 @@ use Rattle.container_fill.specs.Filling.{opened}
 use Rattle.container_fill.proofs.PlaceLemmas.{containers-len}
 use Rattle.backup_pass.specs.declared.pass.Pass.{Pass}
 use Rattle.backup_pass.specs.Placing.{joined}
-use Rattle.backup_pass.specs.Passing.{HasPassed, IsCuttable}
-use Rattle.backup_pass.proofs.Sizes.{settled_chunks, last_chunks}
+use Rattle.backup_pass.specs.Passing.{HasPassed}
+use Rattle.stream_cutter.specs.Cutters.{IsCuttable}
+use Rattle.stream_cutter.proofs.Sizes.{settled_chunks, last_chunks}
 use Rattle.backup_pass.proofs.Decisions.{joined-only}
 use Rattle.serial_backup.specs.Going.{Began, AreNumbered, rules_of, chunks_of, made}
 

@@ -67,6 +67,7 @@ pub full_backs_up : (s : ℕ) (config : JobConfig) (limits : Limits) (v : View) 
 full_backs_up s config limits v from latest next idle full latest_is next_is = record {
   read = [];
   given = gives_none from.left;
+  within = omega arith;
   to_the_end = tt;
   few = tt;
   full = λ K kept is. (ap (λ f. Err f) (same K kept), refl, refl);
@@ -116,6 +117,7 @@ module _ (s : ℕ) (config : JobConfig) (limits : Limits) (v w : View) (from : S
   begin_backs_up f keeps idle cause later gets pins tells moment = err_again (BacksUp s config limits v w from from) f (record {
     read = [];
     given = gives_none from.left;
+    within = omega arith;
     to_the_end = tt;
     few = tt;
     full = λ K kept is. absurd (roomy K kept is);
@@ -226,6 +228,7 @@ module _ (b : Began) (now : View) (core : HasCore b.keeper) (roomy : (K : Core) 
     pub starts : (pass : Pass) → HasPassed pass (rules_of b) b.limits.chunks b.first [] [] → index_in pass ≡ b.index → IsGoing b now b.source pass [] []
     starts pass passed index = record {
       given = gives_none b.source.left;
+      within = omega arith;
       source_later = omega arith;
       fed = record { containers = []; underway = begins; passed = passed; index = index; waits = (keeps core.0 core.1).pending; named = record { each = λ n among. inl (as_before n among) }; lens_are = refl };
     }
@@ -247,6 +250,7 @@ module _ (b : Began) (roomy : (K : Core) → Keeps b.keeper K → is_full K.stat
   stopped_backs_up before now to f h aborts told strays waits pins = record {
     read = h.read;
     given = h.given;
+    within = h.within;
     to_the_end = tt;
     few = tt;
     full = λ K kept is. absurd (roomy K kept is);
@@ -315,6 +319,7 @@ module _ (b : Began) (roomy : (K : Core) → Keeps b.keeper K → is_full K.stat
       commit_backs_up ok acked left = record {
         read = h.read;
         given = h.given;
+        within = h.within;
         to_the_end = h.end;
         few = h.few;
         full = λ K kept is. absurd (roomy K kept is);
@@ -393,6 +398,7 @@ module _ (b : Began) (roomy : (K : Core) → Keeps b.keeper K → is_full K.stat
         refused_backs_up = err_again (BacksUp b.set b.config b.limits b.keeper now b.source to) f (record {
           read = h.read;
           given = h.given;
+          within = h.within;
           to_the_end = tt;
           few = tt;
           full = λ K kept is. absurd (roomy K kept is);

@@ -1,5 +1,5 @@
 -- Pieces on their way through the pass.
-use Rattle.std.proofs.Common.{◌≡◌, inl, inr, ⊎_elim, ℕ, ◌≤◌, List, [], ◌∷◌, ◌++◌, length, map, Option, Some, None, refl, sym, ◌∙◌, ap, subst, arith, append-nil, append_assoc, length-append}
+use Rattle.std.proofs.Common.{◌≡◌, inl, inr, ⊎_elim, ℕ, ◌+◌, ◌*◌, ◌<◌, ◌≤◌, List, [], ◌∷◌, ◌++◌, length, map, Option, Some, None, refl, sym, ◌∙◌, ap, subst, arith, append-nil, append_assoc, length-append}
 use Rattle.std.specs.Prelude.{Result, Ok, Err, OnOk, IfOk, IfErr, IfSome}
 use Rattle.std.specs.Option.{option_map}
 use Rattle.std.proofs.lemmas.List.{map-append}
@@ -77,7 +77,7 @@ settled_is_cause b now to read (fault.Full s latest next) h = absurd h
 
 all_is_cause : (b : Began) (now : View) (to : SourceTold) (read : List ℕ) (f : Fault) → IsAtEnd to → IsTooManyInAll b read f → IsBackupFault b.config b.limits b.keeper.told.faults now.told.faults b.source to read f
 all_is_cause b now to read fault.Memory end h = tt
-all_is_cause b now to read (fault.TooMany limit) end h = (h.0, inr (end, h.1))
+all_is_cause b now to read (fault.TooMany limit) end h = (h.0, inr (inl (end, h.1)))
 all_is_cause b now to read (fault.StoreFault n) end h = absurd h
 all_is_cause b now to read fault.Usage end h = absurd h
 all_is_cause b now to read (fault.NotKept s v floor latest) end h = absurd h
@@ -116,6 +116,7 @@ module _ (b : Began) (before now : View) (from to : SourceTold) (old : Pass) (le
   read_stops same later rose n is = record {
     read = read;
     given = h.given ∙ ap (λ o. option_map (λ x. read ++ x) o) (sym same);
+    within = h.within;
     source_later = omega (arith, h.source_later);
     containers = h.fed.containers;
     underway = h.fed.underway;
@@ -123,22 +124,23 @@ module _ (b : Began) (before now : View) (from to : SourceTold) (old : Pass) (le
   }
 
   -- the piece was read, and then there was a fault
-  pub feed_stops : (piece : List ℕ) {T : Type 0} (r : Result T Fault) → Gives from.left to.left piece → from.faults ≤ to.faults → IfErr r (IsHalted b now (IsTooMany b (read ++ piece))) → IfErr r (IsStopped b now to)
-  feed_stops piece (Ok x) gives later halted = tt
-  feed_stops piece (Err f) gives later halted = record {
+  pub feed_stops : (piece : List ℕ) → length read ≤ b.limits.chunks * 65536 → length piece ≤ 65536 → {T : Type 0} (r : Result T Fault) → Gives from.left to.left piece → from.faults ≤ to.faults → IfErr r (IsHalted b now (IsTooMany b (read ++ piece))) → IfErr r (IsStopped b now to)
+  feed_stops piece few one (Ok x) gives later halted = tt
+  feed_stops piece few one (Err f) gives later halted = record {
     read = read ++ piece;
     given = gives_more b.source.left from.left to.left read piece h.given gives;
+    within = omega (arith, few, one, length-append read piece);
     source_later = omega (arith, h.source_later);
     containers = halted.containers;
     underway = halted.underway;
     cause = ⊎_elim (put_is_cause b now to (read ++ piece) f) (settled_is_cause b now to (read ++ piece) f) halted.cause;
   }
 
-  pub feed_goes : (piece : List ℕ) (new : Pass) (lens' : List ℕ) (n : ℕ) → n ≡ length piece → (n ≡ 0 → IsAtEnd from) → Gives from.left to.left piece → from.faults ≤ to.faults → IsFed b now new lens' (read ++ piece) → HasGone b now to new lens' read n
-  feed_goes piece new lens' n len end gives later fed = record {
+  pub feed_goes : (piece : List ℕ) → length read ≤ b.limits.chunks * 65536 → length piece ≤ 65536 → (new : Pass) (lens' : List ℕ) (n : ℕ) → n ≡ length piece → (n ≡ 0 → IsAtEnd from) → Gives from.left to.left piece → from.faults ≤ to.faults → IsFed b now new lens' (read ++ piece) → HasGone b now to new lens' read n
+  feed_goes piece few one new lens' n len end gives later fed = record {
     piece = piece;
     len = len;
-    going = record { given = gives_more b.source.left from.left to.left read piece h.given gives; source_later = omega (arith, h.source_later); fed = fed };
+    going = record { given = gives_more b.source.left from.left to.left read piece h.given gives; within = omega (arith, few, one, length-append read piece); source_later = omega (arith, h.source_later); fed = fed };
     end = λ none. at_end from.left to.left piece gives (end none);
   }
 
@@ -148,11 +150,24 @@ module _ (b : Began) (before now : View) (from to : SourceTold) (old : Pass) (le
   end_stops end (Err f) halted = record {
     read = read;
     given = h.given;
+    within = h.within;
     source_later = h.source_later;
     containers = halted.containers;
     underway = halted.underway;
     cause = ⊎_elim (put_is_cause b now from read f) (all_is_cause b now from read f end) halted.cause;
   }
+
+-- more bytes were read than the limit of chunks can have
+pub many_stop : (b : Began) (now : View) (to : SourceTold) (p : Pass) (lens read : List ℕ) → IsGoing b now to p lens read → (limit : ℕ) → limit ≡ b.limits.chunks → b.limits.chunks * 65536 < length read → IsStopped b now to (fault.TooMany limit)
+many_stop b now to p lens read h limit is many = record {
+  read = read;
+  given = h.given;
+  within = h.within;
+  source_later = h.source_later;
+  containers = h.fed.containers;
+  underway = h.fed.underway;
+  cause = (is, inr (inr many));
+}
 
 -- nothing has been noted yet
 pub going_from : (b : Began) (now : View) (to : SourceTold) (p : Pass) (lens : List ℕ) → lens ≡ [] → IsGoing b now to p [] [] → IsGoing b now to p lens []
@@ -169,6 +184,7 @@ module _ (b : Began) (before now : View) (to : SourceTold) (pass : Pass) (lens s
   concludes p ready = record {
     read = read;
     given = h.given;
+    within = h.within;
     source_later = h.source_later;
     end = end;
     few = ended.is.few;
@@ -183,6 +199,7 @@ module _ (b : Began) (before now : View) (to : SourceTold) (pass : Pass) (lens s
   memory_stops = record {
     read = read;
     given = h.given;
+    within = h.within;
     source_later = h.source_later;
     containers = (made b read).containers;
     underway = ended.underway;

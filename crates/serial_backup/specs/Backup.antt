@@ -1,5 +1,5 @@
 -- A backup into a store.
-use Rattle.std.specs.Prelude.{◌≡◌, ◌⊎◌, ◌≤◌, ◌<◌, ◌+◌, ℕ, true, List, [], length, Contains, Option, None, IfSome, IsSome, IsSomeAnd, OnOk, IfOk, IfErr, Result, Err}
+use Rattle.std.specs.Prelude.{◌≡◌, ◌⊎◌, ◌≤◌, ◌<◌, ◌+◌, ◌*◌, ℕ, true, List, [], length, Contains, Option, None, IfSome, IsSome, IsSomeAnd, OnOk, IfOk, IfErr, Result, Err}
 use Rattle.vault_types.specs.declared.JobConfig.{JobConfig}
 use Rattle.vault_types.specs.declared.Limits.{Limits}
 use Rattle.vault_types.specs.declared.Name.{Name}
@@ -27,14 +27,16 @@ IsNumber before n now = Rose before n × (n ≤ now)
 abbrev pub IsAtEnd : SourceTold → Type 0
 IsAtEnd to = IfSome to.left (λ rest. rest ≡ [])
 
--- why a backup is refused that may be made, where these bytes were read
+-- why a backup is refused that may be made, where these bytes were read: there are too many chunks where so many have an
+-- end, where there are so many at the end, or where there are more bytes than the limit of chunks can have
 abbrev pub IsBackupFault : JobConfig → Limits → ℕ → ℕ → SourceTold → SourceTold → List ℕ → Fault → Type 0
 IsBackupFault config limits before now from to read fault.Memory = Unit {0}
 IsBackupFault config limits before now from to read (fault.StoreFault n) = IsNumber before n now
 IsBackupFault config limits before now from to read (fault.ReadFault n) = IsNumber from.faults n to.faults
 IsBackupFault config limits before now from to read (fault.TooMany n) =
     (n ≡ limits.chunks)
-    × ((limits.chunks < length (settled read config.cutting)) ⊎ (IsAtEnd to × (limits.chunks < length (cuts read config.cutting))))
+    × ((limits.chunks < length (settled read config.cutting))
+    ⊎ ((IsAtEnd to × (limits.chunks < length (cuts read config.cutting))) ⊎ (limits.chunks * 65536 < length read)))
 IsBackupFault config limits before now from to read other = ⊥
 
 -- the refusal of a full set
@@ -83,6 +85,8 @@ pub record BacksUp (s : ℕ) (config : JobConfig) (limits : Limits) (v w : View)
   -- the bytes that were read; all of them where it is done
   pub read : List ℕ
   pub given : Gives from.left to.left read
+  -- at most as many as the limit of chunks can have, and one read more
+  pub within : length read ≤ limits.chunks * 65536 + 65536
   pub to_the_end : OnOk result (IsAtEnd to)
   pub few : OnOk result (length (cuts read config.cutting) ≤ limits.chunks)
   -- where the set is full, it is refused, and nothing is done

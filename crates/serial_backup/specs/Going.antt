@@ -1,5 +1,5 @@
 -- A backup while it is under way.
-use Rattle.std.specs.Prelude.{◌≡◌, ◌⊎◌, ◌≤◌, ◌<◌, ◌+◌, ◌-◌, ◌^◌, ℕ, nat_lt, if◌then◌else◌, slice_get, unwrap_or, option_to_list, List, [], ◌∷◌, ◌++◌, map, length, sum_by, Contains, Some, None, option_map, IsSome}
+use Rattle.std.specs.Prelude.{◌≡◌, ◌⊎◌, ◌≤◌, ◌<◌, ◌+◌, ◌-◌, ◌*◌, ◌^◌, ℕ, nat_lt, if◌then◌else◌, slice_get, unwrap_or, option_to_list, List, [], ◌∷◌, ◌++◌, map, length, sum_by, Contains, Some, None, option_map, IsSome}
 use Rattle.vault_types.specs.declared.Fp.{Fp}
 use Rattle.vault_types.specs.declared.Name.{Name}
 use Rattle.vault_types.specs.declared.JobConfig.{JobConfig}
@@ -23,7 +23,8 @@ use Rattle.fp_index.specs.Index.{found_in, IsIndexOf}
 use Rattle.container_fill.specs.Filling.{IsFilledBy}
 use Rattle.backup_pass.specs.declared.pass.Pass.{Pass}
 use Rattle.backup_pass.specs.declared.pass.Passed.{Passed}
-use Rattle.backup_pass.specs.Passing.{HasPassed, IsCuttable, IsPassFault, index_in}
+use Rattle.backup_pass.specs.Passing.{HasPassed, IsPassFault, index_in}
+use Rattle.stream_cutter.specs.Cutters.{IsCuttable}
 use Rattle.keeper_catalog.specs.View.{View, Keeps, HasCore}
 use Rattle.keeper_jobs.specs.Jobs.{version_by}
 use Rattle.serial_backup.specs.declared.ending.Ended.{Ended}
@@ -146,6 +147,7 @@ IsTooManyInAll b read f = IsPassFault b.limits.chunks (length (cuts read b.confi
 -- the bytes that were read went through the pass
 pub record IsGoing (b : Began) (now : View) (to : SourceTold) (pass : Pass) (lens read : List ℕ) : Type 0 where
   pub given : Gives b.source.left to.left read
+  pub within : length read ≤ b.limits.chunks * 65536 + 65536
   pub source_later : b.source.faults ≤ to.faults
   pub fed : IsFed b now pass lens read
 
@@ -160,6 +162,7 @@ pub record HasGone (b : Began) (now : View) (to : SourceTold) (pass : Pass) (len
 pub record IsStopped (b : Began) (now : View) (to : SourceTold) (f : Fault) : Type 0 where
   pub read : List ℕ
   pub given : Gives b.source.left to.left read
+  pub within : length read ≤ b.limits.chunks * 65536 + 65536
   pub source_later : b.source.faults ≤ to.faults
   pub containers : List Container
   pub underway : IsUnderway b now containers
@@ -213,6 +216,7 @@ pub record IsReady (b : Began) (now : View) (read : List ℕ) (p : Recipe × Ans
 pub record HasConcluded (b : Began) (now : View) (to : SourceTold) (p : Recipe × Answer) : Type 0 where
   pub read : List ℕ
   pub given : Gives b.source.left to.left read
+  pub within : length read ≤ b.limits.chunks * 65536 + 65536
   pub source_later : b.source.faults ≤ to.faults
   pub end : IsAtEnd to
   pub few : length (cuts read b.config.cutting) ≤ b.limits.chunks

@@ -5,7 +5,7 @@ ghost use Rattle.serial_backup.specs.Going.{Began, IsFed, IsHalted, IsTooManyInA
 
 use crate::putting::put_all;
 use backup_pass::{Pass, Passed};
-use container_fill::Filled;
+use container_fill::{Filled, Unsealed};
 use container_store::Sealed;
 use fp_index::Index;
 use keeper_core::Keeper;
@@ -25,11 +25,11 @@ pub(crate) struct Ended {
     pub(crate) written: u64,
 }
 
-fn push_last(full: &mut Vec<Sealed>, last: Option<Sealed>) -> Result<(), Memory>
+fn push_last(full: &mut Vec<Sealed>, last: Option<Unsealed>) -> Result<(), Memory>
     ensures { OnOk result (full.new.items ≡ full.old.items ++ option_to_list last) }
 {
     match last {
-        Some(sealed) => full.push(sealed)?,
+        Some(unsealed) => full.push(unsealed.seal())?,
         None => {}
     }
     Ok(())

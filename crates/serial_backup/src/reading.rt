@@ -1,5 +1,5 @@
 // The stream is read piece by piece, and each goes through the pass.
-ghost use Rattle.std.specs.Prelude.{◌≡◌, ◌<◌, ◌≤◌, List, ℕ, OnOk, IfOk, IfErr, map, length, [], ◌∷◌, ◌++◌};
+ghost use Rattle.std.specs.Prelude.{◌≡◌, ◌<◌, ◌≤◌, ◌*◌, List, ℕ, OnOk, IfOk, IfErr, map, length, [], ◌∷◌, ◌++◌};
 ghost use Rattle.backup_pass.specs.Passing.{index_in};
 ghost use Rattle.serial_backup.specs.Backup.{IsAtEnd};
 ghost use Rattle.serial_backup.specs.Going.{Began, IsFed, IsHalted, IsTooMany, IsGoing, HasGone, IsStopped};
@@ -31,7 +31,7 @@ fn feed<S: Shelf>(
     put_all(alloc, keeper, full, lens)
 }
 
-// Reads a piece, which has room for at least one byte, and feeds it. None is the end.
+// Reads a piece, which has room for 1 to 65,536 bytes, and feeds it. None is the end.
 fn advance<S: Shelf, I: Source>(
     alloc: Global,
     keeper: &mut Keeper<S>,
@@ -40,13 +40,15 @@ fn advance<S: Shelf, I: Source>(
     lens: &mut Vec<u32>,
     piece: &mut [u8],
 ) -> Result<usize, Fault>
-    requires room { 0 < length piece.old }
+    requires low { 0 < length piece.old }
+    requires high { length piece.old ≤ 65536 }
     requires going { (b : Began) × (read : List ℕ) × IsGoing b keeper.old (I.told source.old) pass.old lens.old.items read }
     ensures room { length piece.new ≡ length piece.old }
+    ensures fits { IfOk result (λ n. n ≤ length piece.old) }
     ensures index { index_in pass.new ≡ index_in pass.old }
-    ensures ok { (b : Began) (read : List ℕ) → IsGoing b keeper.old (I.told source.old) pass.old lens.old.items read
+    ensures ok { (b : Began) (read : List ℕ) → IsGoing b keeper.old (I.told source.old) pass.old lens.old.items read → length read ≤ b.limits.chunks * 65536
         → IfOk result (HasGone b keeper.new (I.told source.new) pass.new lens.new.items read) }
-    ensures err { (b : Began) (read : List ℕ) → IsGoing b keeper.old (I.told source.old) pass.old lens.old.items read
+    ensures err { (b : Began) (read : List ℕ) → IsGoing b keeper.old (I.told source.old) pass.old lens.old.items read → length read ≤ b.limits.chunks * 65536
         → IfErr result (IsStopped b keeper.new (I.told source.new)) }
 {
     let n = match source.read(piece) {
@@ -57,7 +59,7 @@ fn advance<S: Shelf, I: Source>(
     Ok(n)
 }
 
-// Reads to the end.
+// Reads to the end, or until there are more bytes than the limit of chunks can have.
 pub(crate) fn read_all<S: Shelf, I: Source>(
     alloc: Global,
     keeper: &mut Keeper<S>,
@@ -75,11 +77,15 @@ pub(crate) fn read_all<S: Shelf, I: Source>(
     let mut room = Vec::with_capacity(alloc, 65_536)?;
     room.resize(65_536, 0)?;
     let piece = room.as_mut_slice();
-    for _turn in 0..u64::MAX {
-        if advance(alloc, keeper, source, pass, lens, piece)? == 0 {
+    let limit = pass.limit();
+    let most = u64::from(limit) * 65_536;
+    let mut count = 0;
+    while count <= most {
+        let n = advance(alloc, keeper, source, pass, lens, piece)?;
+        if n == 0 {
             return Ok(());
         }
+        count += n as u64;
     }
-    // the limit of chunks comes first
-    unreachable!()
+    Err(Fault::TooMany { limit })
 }

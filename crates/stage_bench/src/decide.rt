@@ -58,8 +58,8 @@ fn job(rt: HostRuntime, chunks: u64, len: usize, containers: u64) -> Result<(u64
         let start = Instant::now(&rt)?;
         let mut full = Vec::new(alloc);
         for decided in decider.segment(alloc, segment)? {
-            if let Some(sealed) = filler.push(alloc, decided)? {
-                full.push(sealed)?;
+            if let Some(unsealed) = filler.push(alloc, decided)? {
+                full.push(unsealed.seal())?;
             }
         }
         took = took.saturating_add(nanos(rt, &start)?);

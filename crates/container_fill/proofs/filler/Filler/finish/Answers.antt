@@ -1,26 +1,15 @@
 use Rattle.std.proofs.Common.{◌≡◌, ℕ, List, [], length, ap, ◌∙◌, refl, option_to_list}
-use Rattle.std.specs.Option.{option_map_or}
 use Rattle.vault_types.specs.declared.How.{How}
 use Rattle.vault_types.specs.Names.{NamedChunk}
 use Rattle.vault_types.specs.Tables.{Container}
 use Rattle.vault_types.specs.Fill.{Filled, fill}
 use Rattle.container_fill.specs.Carried.{carried}
-use Rattle.container_fill.specs.Filling.{Filling, opened, closed, HasFilled, IsFilledBy}
+use Rattle.container_fill.specs.Fields.{filling_in}
+use Rattle.container_fill.specs.Filling.{opened, closed, HasFilled, IsFilledBy}
 use Rattle.container_fill.proofs.FillerLemmas.{filled-by, filled-in_turn, filled-moved}
 use Rattle.container_fill.proofs.filler.Filler.finish.Goals as goal
 
-abbrev seen : goal.After-drop-filler-inside-3 → Filling
-seen c = record {
-  capacity = c.filler.inside.capacity;
-  next = c.filler.inside.next;
-  held = option_map_or (λ o. o) c.filler.inside.open [];
-  taken = c.filler.inside.taken.entries;
-  rows = c.filler.inside.rows.items;
-  containers = c.filler.inside.containers;
-  written = c.filler.inside.written;
-}
-
-now : (c : goal.After-drop-filler-inside-3) → seen c ≡ closed c.args.self
+now : (c : goal.After-drop-filler-inside-3) → filling_in c.filler.inside ≡ closed c.args.self
 now c = c.filler.view_is ∙ c.close-last.ensures.filler
 
 by : (c : goal.After-drop-filler-inside-3) (first : ℕ) (gone : List Container) (chunks : List NamedChunk) (hows : List How) (G : Filled)

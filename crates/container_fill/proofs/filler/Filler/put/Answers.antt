@@ -4,21 +4,10 @@ use Rattle.std.specs.Option.{option_map_or}
 use Rattle.std.proofs.lemmas.Grind.{common_steps}
 use Rattle.vault_types.specs.declared.Fp.{Fp}
 use Rattle.vault_types.specs.Names.{fp, same_fp}
-use Rattle.container_fill.specs.Filling.{Filling}
+use Rattle.container_fill.specs.Fields.{filling_in}
 use Rattle.container_fill.proofs.KeepLemmas.{covered-put}
 use Rattle.container_fill.proofs.filler.Filler.put.Goals as goal
 use Rattle.container_fill.proofs.filler.Filler.put.Goals.{in-Some+in_ok-open-in-Some, in-None+in_ok-open-in-None}
-
-abbrev before : goal.After-self-2-1 → Filling
-before c = record {
-  capacity = c.self.inside.capacity;
-  next = c.self.inside.next;
-  held = option_map_or (λ o. o) c.self.inside.open [];
-  taken = c.self.inside.taken.entries;
-  rows = c.self.inside.rows.items;
-  containers = c.self.inside.containers;
-  written = c.self.inside.written;
-}
 
 held : (c : goal.After-self-2-1) → c.match-take.open ≡ option_map_or (λ o. o) c.self.inside.open [] ++ c.args.chunk.now ∷ []
 held c = elim c.match-take.branch [ in-Some+in_ok-open-in-Some w ↦ grind (arith, common_steps) | in-None+in_ok-open-in-None w ↦ grind (arith, common_steps) ]
@@ -35,5 +24,5 @@ invariant_of-self-2 c =
       low = c.self.invariant.low;
       high = omega arith;
       higher = λ more. omega arith;
-      covered = covered-put (before c) c.args.chunk.now c.self.inside.next c.insert.new.self.entries c.match-take.open c.self.invariant.covered (held c) updates;
+      covered = covered-put (filling_in c.self.inside) c.args.chunk.now c.self.inside.next c.insert.new.self.entries c.match-take.open c.self.invariant.covered (held c) updates;
     }

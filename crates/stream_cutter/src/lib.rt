@@ -1,7 +1,12 @@
-// A chunker of either kind.
+//! A chunker of either kind.
+#![tactic(auto)]
+
 ghost use Rattle.std.specs.Prelude.{◌≡◌, ℕ, List, [], ◌++◌, map, OnOk};
 ghost use Rattle.vault_types.specs.Cuts.{cuts, settled, unsettled, only_bytes, HasCut};
-ghost use Rattle.backup_pass.specs.Passing.{IsCuttable};
+ghost use Rattle.stream_cutter.specs.Cutters.{IsCuttable};
+
+#[cfg(test)]
+mod tests;
 
 use chunk_ae::Ae;
 use chunk_fixed::Fixed;
@@ -11,13 +16,13 @@ use vault_types::{Cutting, Memory};
 
 /// A chunker as a cutting wants it. Contracts see it as the cutting and the bytes that it was fed and has not given out.
 #[derive(Drop)]
-pub(crate) struct Cutter {
+pub struct Cutter {
     way: Way,
 }
 
-/// The two ways to cut.
+// The two ways to cut.
 #[derive(Drop)]
-pub(crate) enum Way {
+enum Way {
     Fixed(Fixed),
     Ae(Ae),
 }
@@ -27,7 +32,7 @@ impl Model for Cutter {
 
     ghost Value = { Chunker };
 
-    ghost use Rattle.backup_pass.specs.Cutters.{chunker_in};
+    ghost use Rattle.stream_cutter.specs.Cutters.{chunker_in};
 
     ghost view = { λ c. chunker_in c.way };
 }

@@ -13,7 +13,7 @@ use Rattle.vault_types.specs.State.{State, is_kept, floor_of, latest_of, version
 use Rattle.vault_types.specs.Script.{is_refused}
 use Rattle.vault_types.specs.Texts.{recipe_text}
 use Rattle.vault_traits.specs.Told.{ShelfTold, SinkTold, Takes}
-use Rattle.script_laws.specs.Calls.{HasWritten}
+use Rattle.script_laws.specs.Calls.{GivesAtMost, HasWritten}
 use Rattle.script_laws.specs.Causes.{Counts, CausesRise, fits, counts_of_source, counts_of_sink, counts_of_shelf}
 use Rattle.script_laws.specs.Complete.{IsWell, IsComplete}
 use Rattle.script_laws.specs.Leaves.{Begins}
@@ -22,11 +22,12 @@ use Rattle.script_laws.specs.Strays.{StraysOf}
 use Rattle.run_laws.specs.World.{World, IsPrinted, TakesFront, report_text}
 use Rattle.run_laws.specs.Early.{IsScript}
 
--- a script of the input's lines over the places; the report is on `out`
+-- a script of the input's lines over the places; at most one byte more than the limit was read of it; the report is on `out`
 pub record RunsBatch (in_order : Bool) (limits : Limits) (before now : World) (answers : List Answer) (f : Option Fault) : Type 0 where
   pub lines : List Line
   pub script : IsScript limits before.input lines
   pub read : IfSome now.input.left (λ rest. rest ≡ [])
+  pub within : GivesAtMost (limits.script + 1) before.input now.input
   pub runs : RunsLines in_order (Begins before.shelf) (StraysOf before.shelf) limits lines answers before.shelf now.shelf before.places now.places
   pub printed : IsPrinted (report_text answers) before.out now.out f
   pub report : now.report ≡ before.report

@@ -16,7 +16,7 @@ use Rattle.vault_types.specs.Events.{Change}
 use Rattle.vault_types.specs.Script.{after, is_refused}
 use Rattle.vault_traits.specs.Counts.{added}
 use Rattle.vault_traits.specs.Files.{AreKept, ChangesOnly, IsEmptied, IsNewWriter, IsReaderOf, IsWhatWasTaken}
-use Rattle.vault_traits.specs.Told.{ShelfTold, SourceTold, SinkTold, PlacesTold, Takes}
+use Rattle.vault_traits.specs.Told.{ShelfTold, SourceTold, SinkTold, PlacesTold, Gives, Takes}
 use Rattle.script_laws.specs.Causes.{CausesRise, fits, counts_of_source, counts_of_sink, counts_of_shelf}
 use Rattle.script_laws.specs.Outputs.{IsFrontOf}
 use Rattle.script_laws.specs.Steps.{answer_of, read_numbered, write_numbered, StepsOn}
@@ -24,6 +24,10 @@ use Rattle.script_laws.specs.Steps.{answer_of, read_numbered, write_numbered, St
 -- what a keeper keeps at a moment
 abbrev pub Keeping : Type 1
 Keeping = State → Option Change → Type 0
+
+-- the source gave at most so many bytes
+abbrev pub GivesAtMost : ℕ → SourceTold → SourceTold → Type 0
+GivesAtMost most from to = (read : List ℕ) × Gives from.left to.left read × (length read ≤ most)
 
 -- a line with the name [] stands for the call alone
 pub record BacksUpLine (before behind : Keeping) (Known Behind : Name → Type 0) (limits : Limits) (set : ℕ) (config : JobConfig) (old new : ShelfTold) (from to : SourceTold) (result : Result Answer Fault) : Type 0 where

@@ -1,6 +1,6 @@
 -- A backup's line, from what a backup ensures.
 use Rattle.std.proofs.Common.{◌≡◌, ◌⊎◌, inl, inr, ⊎_elim, ◌≤◌, ◌<◌, ◌+◌, ◌-◌, ◌*◌, ◌^◌, ℕ, Bool, true, false, IsTrue, List, [], ◌∷◌, length, Option, Some, None, refl, sym, ◌∙◌, ap, subst, arith}
-use Rattle.std.specs.Prelude.{IsSome, IsSomeAnd, IfSome, Result, Ok, Err, Contains}
+use Rattle.std.specs.Prelude.{IsSome, IsSomeAnd, IfSome, unwrap_or, Result, Ok, Err, Contains}
 use Rattle.std.proofs.lemmas.List.Elements.{Contains-push}
 use Rattle.vault_types.specs.declared.JobConfig.{JobConfig}
 use Rattle.vault_types.specs.declared.Limits.{Limits}
@@ -24,7 +24,7 @@ use Rattle.vault_traits.proofs.Moments.{more, more_now}
 use Rattle.stream_cutter.specs.Cutters.{IsCuttable}
 use Rattle.keeper_catalog.specs.View.{View, Keeps, HasCore}
 use Rattle.keeper_core.specs.Calls.{IsShelfFault}
-use Rattle.script_laws.specs.Calls.{BacksUpLine}
+use Rattle.script_laws.specs.Calls.{BacksUpLine, IsTooMany}
 use Rattle.script_laws.specs.Causes.{CausesRise, counts_of_source, fits}
 use Rattle.script_laws.specs.Complete.{IsWell, IsWellAnswered}
 use Rattle.script_laws.specs.Steps.{BearsStep, IsNextOther, StandsWith, StepsOn}
@@ -34,8 +34,8 @@ use Rattle.script_laws.proofs.LineLemmas.{unmoved, full_is, full_means, not_full
 use Rattle.vault_types.specs.declared.Pending.TheVariants as pending
 use Rattle.serial_delete.specs.Keeping.{IsStateWith, IsKnownStray}
 use Rattle.serial_delete.proofs.Keeping.{changed_of, images_of}
-use Rattle.serial_backup.specs.Backup.{BacksUp, IsRefused, IsBackupFault, MayBeHalf, after_backup, full_fault}
-use Rattle.backup_lines.proofs.Reading.{whole_read, too_many}
+use Rattle.serial_backup.specs.Backup.{BacksUp, IsRefused, IsBackupFault, IsCauseOf, MayBeHalf, after_backup, full_fault}
+use Rattle.backup_lines.proofs.Reading.{IsAll, is_all, whole_read, too_many}
 use Rattle.backup_lines.proofs.Refusals.{own_number, kind_err, cause_err, exact_other, many_means}
 
 -- ---- what a crash leaves
@@ -71,10 +71,10 @@ module _ (u v : View) (ps : List Pin) (s : ℕ) (config : JobConfig) (limits : L
   goes_from : (S : State) (other : Option Change) (a : Answer) (is : IsStateWith u ps S other) → Goes v is.core.state is.core.other a → Goes v S other a
   goes_from S other a is goes = subst (λ (T : State). Goes v T other a) is.state (subst (λ (o : Option Change). Goes v is.core.state o a) is.change goes)
 
-  module _ (left : from.left ≡ Some x) (can : IsCuttable config.cutting) (K : Core) (keeps : Keeps u K) (pinned : K.pins ≡ ps) (told : IsSome u.told.blobs) (changed : IfSome K.other (λ h. IsValid h.state)) (images : u.pending ≡ pending.Not → LeavesNowIfTold u.told.history (IsNear K.state K.other)) where
+  module _ (can : IsCuttable config.cutting) (K : Core) (keeps : Keeps u K) (pinned : K.pins ≡ ps) (told : IsSome u.told.blobs) (changed : IfSome K.other (λ h. IsValid h.state)) (images : u.pending ≡ pending.Not → LeavesNowIfTold u.told.history (IsNear K.state K.other)) where
     -- it was done
-    done_goes : (a : Answer) → BacksUp s config limits u v from to (Ok a) → Goes v K.state K.other a
-    done_goes a h = subst (λ (b : Answer). Goes v K.state K.other b) (sym is) (
+    done_goes : (a : Answer) (h : BacksUp s config limits u v from to (Ok a)) → IsAll from.left x h.read → Goes v K.state K.other a
+    done_goes a h left = subst (λ (b : Answer). Goes v K.state K.other b) (sym is) (
       None,
       record { core = after_backup s h.read config v.memo.strays v.pending K; keeps = h.done K keeps; state = same; change = refl; job = refl; pins = pinned; told = h.tells told; changed = tt; images = λ e. more_now (λ c. Stands c (backup K.state s h.read config)) (IsNear (after (λ _. x) K.state line (stored K.state s x config)) None) (λ c stands. inl (subst (Stands c) same stands)) v.told.history (h.crash_after K keeps) },
       record {
@@ -125,10 +125,10 @@ module _ (u v : View) (ps : List Pin) (s : ℕ) (config : JobConfig) (limits : L
         is e = cc
 
     -- it is refused by another fault
-    other_goes : (f : Fault) → BacksUp s config limits u v from to (Err f) → MeansLine limits (λ _. x) K.state line (Refused f) → (IsWell limits (λ _. x) K.state (line ∷ []) → IsWellAnswered limits (λ _. x) K.state line (Refused f))
+    other_goes : (f : Fault) (h : BacksUp s config limits u v from to (Err f)) → IsAll from.left x h.read → MeansLine limits (λ _. x) K.state line (Refused f) → (IsWell limits (λ _. x) K.state (line ∷ []) → IsWellAnswered limits (λ _. x) K.state line (Refused f))
         → (others : List Name) → (v.told.faults < 2 ^ 64 - 1 → length others ≤ 2 * (v.told.faults - u.told.faults)) → (IsShelfFault f → Contains others (recipe_name s (latest_of K.state s + 1)))
         → Goes v K.state K.other (Refused f)
-    other_goes f h means complete others few among = (
+    other_goes f h left means complete others few among = (
       r.other,
       record { core = after_refused r.other None v.memo.strays v.pending K; keeps = r.keeps; state = refl; change = refl; job = refl; pins = pinned; told = h.tells told; changed = r.changed changed; images = r.settled images },
       record {
@@ -171,36 +171,36 @@ module _ (u v : View) (ps : List Pin) (s : ℕ) (config : JobConfig) (limits : L
     one_few : (q : Name) (n m k : ℕ) → Rose m k → k ≤ n → n < 2 ^ 64 - 1 → length (q ∷ []) ≤ 2 * (n - m)
     one_few q n m k rose later below = omega (arith, rose)
 
-    by_fault : (f : Fault) → is_full K.state s limits ≡ false → (h : BacksUp s config limits u v from to (Err f)) → IsBackupFault config limits u.told.faults v.told.faults from to h.read f → Goes v K.state K.other (Refused f)
-    by_fault fault.Memory full h why =
-        other_goes fault.Memory h (not_full_means limits (λ _. x) K.state s [] config fault.Memory (sym full) refl (λ k e. cc) refl) (λ all. inr (inr (inl refl)))
+    by_fault : (f : Fault) → is_full K.state s limits ≡ false → (h : BacksUp s config limits u v from to (Err f)) → IsAll from.left x h.read → IsBackupFault config limits u.told.faults v.told.faults from to h.read f → Goes v K.state K.other (Refused f)
+    by_fault fault.Memory full h left why =
+        other_goes fault.Memory h left (not_full_means limits (λ _. x) K.state s [] config fault.Memory (sym full) refl (λ k e. cc) refl) (λ all. inr (inr (inl refl)))
         no_names (none_few v.told.faults u.told.faults) (λ shelf. let clash : fault.Memory ≡ fault.StoreFault shelf.0 = shelf.1 in cc)
-    by_fault (fault.StoreFault n) full h why =
-        other_goes (fault.StoreFault n) h (not_full_means limits (λ _. x) K.state s [] config (fault.StoreFault n) (sym full) refl (λ k e. cc) refl) (λ all. inr (inr (inr refl)))
+    by_fault (fault.StoreFault n) full h left why =
+        other_goes (fault.StoreFault n) h left (not_full_means limits (λ _. x) K.state s [] config (fault.StoreFault n) (sym full) refl (λ k e. cc) refl) (λ all. inr (inr (inr refl)))
         (recipe_name s (latest_of K.state s + 1) ∷ []) (one_few (recipe_name s (latest_of K.state s + 1)) v.told.faults u.told.faults n why.0 why.1) (λ shelf. Contains-push [] (recipe_name s (latest_of K.state s + 1)))
-    by_fault (fault.ReadFault n) full h why =
-        other_goes (fault.ReadFault n) h (not_full_means limits (λ _. x) K.state s [] config (fault.ReadFault n) (sym full) refl (λ k e. cc) refl) (λ all. inr (inr (inr refl)))
+    by_fault (fault.ReadFault n) full h left why =
+        other_goes (fault.ReadFault n) h left (not_full_means limits (λ _. x) K.state s [] config (fault.ReadFault n) (sym full) refl (λ k e. cc) refl) (λ all. inr (inr (inr refl)))
         no_names (none_few v.told.faults u.told.faults) (λ shelf. let clash : fault.ReadFault n ≡ fault.StoreFault shelf.0 = shelf.1 in cc)
-    by_fault (fault.TooMany n) full h why =
+    by_fault (fault.TooMany n) full h left why =
         let many : limits.chunks < length (cuts x config.cutting) = too_many from to x h.read left h.given config limits u.told.faults v.told.faults n can why in
-        other_goes (fault.TooMany n) h (many_means limits x K.state s config n full why.0 many) (λ all. absurd (omega (arith, all.few.0, many)))
+        other_goes (fault.TooMany n) h left (many_means limits x K.state s config n full why.0 many) (λ all. absurd (omega (arith, all.few.0, many)))
         no_names (none_few v.told.faults u.told.faults) (λ shelf. let clash : fault.TooMany n ≡ fault.StoreFault shelf.0 = shelf.1 in cc)
-    by_fault fault.Usage full h why = absurd why
-    by_fault (fault.NotKept a b c d) full h why = absurd why
-    by_fault (fault.WriteFault n) full h why = absurd why
-    by_fault (fault.Damaged a b c) full h why = absurd why
-    by_fault (fault.LastVersion a b c) full h why = absurd why
-    by_fault (fault.PlaceFault n) full h why = absurd why
-    by_fault (fault.BadLine n) full h why = absurd why
-    by_fault (fault.ScriptTooLong n) full h why = absurd why
-    by_fault (fault.Full a b c) full h why = absurd why
+    by_fault fault.Usage full h left why = absurd why
+    by_fault (fault.NotKept a b c d) full h left why = absurd why
+    by_fault (fault.WriteFault n) full h left why = absurd why
+    by_fault (fault.Damaged a b c) full h left why = absurd why
+    by_fault (fault.LastVersion a b c) full h left why = absurd why
+    by_fault (fault.PlaceFault n) full h left why = absurd why
+    by_fault (fault.BadLine n) full h left why = absurd why
+    by_fault (fault.ScriptTooLong n) full h left why = absurd why
+    by_fault (fault.Full a b c) full h left why = absurd why
 
-    refused_goes : (f : Fault) → K.job ≡ None → BacksUp s config limits u v from to (Err f) → Goes v K.state K.other (Refused f)
-    refused_goes f no_job h = by_test (is_full K.state s limits) refl
+    refused_goes : (f : Fault) → K.job ≡ None → (h : BacksUp s config limits u v from to (Err f)) → IsAll from.left x h.read → Goes v K.state K.other (Refused f)
+    refused_goes f no_job h left = by_test (is_full K.state s limits) refl
       where
         by_test : (b : Bool) → is_full K.state s limits ≡ b → Goes v K.state K.other (Refused f)
         by_test true full = full_goes f full no_job h
-        by_test false full = by_fault f full h (⊎_elim (λ is. absurd (let clash : false ≡ true = sym full ∙ is.0 in cc)) (λ why. why) (h.causes K keeps))
+        by_test false full = by_fault f full h left (⊎_elim (λ is. absurd (let clash : false ≡ true = sym full ∙ is.0 in cc)) (λ why. why) (h.causes K keeps))
 
 -- ---- the whole
 
@@ -212,19 +212,40 @@ causes_done : (u v : View) (from to : SourceTold) (S : State) (s : ℕ) (x : Lis
 causes_done u v from to S s x config a is store source =
     subst (λ (b : Answer). CausesRise (counts_of_source u.told from) (counts_of_source v.told to) (b ∷ [])) (sym is) (record { store = store; place = omega arith; read = source; write = omega arith })
 
+-- too many bytes were read
+many_read : (s : ℕ) (config : JobConfig) (limits : Limits) (u v : View) (from to : SourceTold) (read : List ℕ) (K : Core) (n : ℕ) → IsCauseOf s config limits u v from to read K (fault.TooMany n) → IsTooMany limits config read to
+many_read s config limits u v from to read K n (inl full) = absurd (let clash : fault.TooMany n ≡ fault.Full s (latest_of K.state s) (next_of K.state) = full.1 in cc)
+many_read s config limits u v from to read K n (inr why) = why.1
+
+not_refused : (a : Answer) (f : Fault) → ◌≡◌ {A = Result Answer Fault} (Ok a) (Err f) → ⊥
+not_refused a f e = cc
+
+same_fault : (f g : Fault) → ◌≡◌ {A = Result Answer Fault} (Err f) (Err g) → f ≡ g
+same_fault f g e = cc
+
 pub backs_up_line : (u v : View) (s : ℕ) (config : JobConfig) (limits : Limits) (from to : SourceTold) (result : Result Answer Fault) → HasCore u → IsCuttable config.cutting → BacksUp s config limits u v from to result
     → (ps : List Pin) → BacksUpLine (IsStateWith u ps) (IsStateWith v ps) (IsKnownStray u) (IsKnownStray v) limits s config u.told v.told from to result
 backs_up_line u v s config limits from to (Ok a) core can h ps = record {
+  read = h.read;
+  given = h.given;
+  within = h.within;
+  too_many = λ n e. absurd (not_refused a (fault.TooMany n) e);
   done = ap is_refused (h.answer core.0 core.1);
   kind = kind_done limits core.0.state s h.read config a (h.answer core.0 core.1);
   causes = causes_done u v from to core.0.state s h.read config a (h.answer core.0 core.1) h.store_later h.source_later;
-  steps = λ S other x here left. goes_from u v ps s config limits from to x S other a here (done_goes u v ps s config limits from to x left can here.core here.keeps here.pins here.told (changed_of u S other here) (images_of u S other here) a h);
+  steps = λ S other here. goes_from u v ps s config limits from to (unwrap_or from.left h.read) S other a here
+      (done_goes u v ps s config limits from to (unwrap_or from.left h.read) can here.core here.keeps here.pins here.told (changed_of u S other here) (images_of u S other here) a h (is_all from.left h.read));
   to_the_end = h.to_the_end;
 }
 backs_up_line u v s config limits from to (Err f) core can h ps = record {
+  read = h.read;
+  given = h.given;
+  within = h.within;
+  too_many = λ n e. many_read s config limits u v from to h.read core.0 n (subst (IsCauseOf s config limits u v from to h.read core.0) (same_fault f (fault.TooMany n) e) (h.causes core.0 core.1));
   done = tt;
   kind = kind_err limits s config u v from to h.read core.0 f (h.causes core.0 core.1);
   causes = cause_err s config limits u v from to h.read h.store_later h.source_later core.0 f (h.causes core.0 core.1);
-  steps = λ S other x here left. goes_from u v ps s config limits from to x S other (Refused f) here (refused_goes u v ps s config limits from to x left can here.core here.keeps here.pins here.told (changed_of u S other here) (images_of u S other here) f here.job h);
+  steps = λ S other here. goes_from u v ps s config limits from to (unwrap_or from.left h.read) S other (Refused f) here
+      (refused_goes u v ps s config limits from to (unwrap_or from.left h.read) can here.core here.keeps here.pins here.told (changed_of u S other here) (images_of u S other here) f here.job h (is_all from.left h.read));
   to_the_end = tt;
 }

@@ -1,6 +1,6 @@
 -- What was read of a source.
-use Rattle.std.proofs.Common.{◌≡◌, ⊎_elim, ◌<◌, ◌≤◌, ◌+◌, ◌++◌, ℕ, List, [], length, length-append, append-nil, Option, Some, None, sym, ◌∙◌, ap, subst, arith}
-use Rattle.std.specs.Prelude.{IfSome}
+use Rattle.std.proofs.Common.{◌≡◌, ◌⊎◌, inl, inr, ⊎_elim, refl, ◌<◌, ◌≤◌, ◌+◌, ◌++◌, ℕ, List, [], length, length-append, append-nil, Option, Some, None, sym, ◌∙◌, ap, subst, arith}
+use Rattle.std.specs.Prelude.{IfSome, unwrap_or}
 use Rattle.std.specs.Option.{option_map}
 use Rattle.vault_types.specs.declared.Cutting.{Cutting}
 use Rattle.vault_types.specs.declared.JobConfig.{JobConfig}
@@ -34,21 +34,32 @@ front_of : (x read : List ℕ) (left : Option (List ℕ)) → Some x ≡ option_
 front_of x read None given = let clash : ◌≡◌ {A = Option (List ℕ)} (Some x) None = given in cc
 front_of x read (Some y) given = (y, cc)
 
-module _ (from to : SourceTold) (x read : List ℕ) (left : from.left ≡ Some x) (given : Gives from.left to.left read) where
+-- the bytes x are those that were left, or where that is not told those that were given
+abbrev pub IsAll : Option (List ℕ) → List ℕ → List ℕ → Type 0
+IsAll left x read = (left ≡ Some x) ⊎ (read ≡ x)
+
+pub is_all : (left : Option (List ℕ)) (read : List ℕ) → IsAll left (unwrap_or left read) read
+is_all None read = inr refl
+is_all (Some x) read = inl refl
+
+module _ (from to : SourceTold) (x read : List ℕ) (left : IsAll from.left x read) (given : Gives from.left to.left read) where
   pub whole_read : IsAtEnd to → read ≡ x
-  whole_read end = whole_of x read to.left (sym left ∙ given) end
+  whole_read end = ⊎_elim (λ told. whole_of x read to.left (sym told ∙ given) end) (λ same. same) left
+
+  behind_read : (y : List ℕ) × (x ≡ read ++ y)
+  behind_read = ⊎_elim (λ told. front_of x read to.left (sym told ∙ given)) (λ same. ([], sym same ∙ sym (append-nil read))) left
 
   -- too many chunks of what was read are too many of the whole
   pub too_many : (config : JobConfig) (limits : Limits) (before now n : ℕ) → IsCuttable config.cutting → IsBackupFault config limits before now from to read (fault.TooMany n) → limits.chunks < length (cuts x config.cutting)
   too_many config limits before now n can why = ⊎_elim
       (λ more.
-      let front = front_of x read to.left (sym left ∙ given) in
+      let front = behind_read in
       let many : limits.chunks < length (cuts (read ++ front.0) config.cutting) = omega (arith, more, settled_few config.cutting can read front.0) in
       subst (λ (z : List ℕ). limits.chunks < length (cuts z config.cutting)) (sym front.1) many)
       (λ others. ⊎_elim
       (λ more. subst (λ (z : List ℕ). limits.chunks < length (cuts z config.cutting)) (whole_read more.0) more.1)
       (λ bytes.
-      let front = front_of x read to.left (sym left ∙ given) in
+      let front = behind_read in
       let all : length x ≡ length (read ++ front.0) = ap length front.1 in
       too_many_bytes config.cutting x limits.chunks can (omega (arith, bytes, all, length-append read front.0)))
       others)

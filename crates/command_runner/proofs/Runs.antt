@@ -75,14 +75,14 @@ module _ (words : List (List ℕ)) (limits : Limits) (before now : World) (answe
 
   refused_script : (f : Option Fault) → IsBatch (command_of words) → IsSomeAnd f (RefusesScript limits before now answers) → IsSomeAnd f (EndsEarly words limits before now answers)
   refused_script None batch h = absurd h
-  refused_script (Some g) batch h = record { why = script_early g batch h.why; none = h.none; shelf = untouched g h.shelf; places = h.places; input = inl batch; out = h.out; line = h.line }
+  refused_script (Some g) batch h = record { why = script_early g batch h.why; none = h.none; shelf = untouched g h.shelf; places = h.places; input = inl (batch, h.within); out = h.out; line = h.line }
 
   -- a script
   pub batch : (f : Option Fault) (status queue lanes workers : ℕ) → command_of words ≡ Some (command.Batch queue lanes workers) → BatchGoes limits before now answers f status → IsRun true Unbuilt words limits before now answers f status
   batch f status queue lanes workers is goes = as_run (command.Batch queue lanes workers) f status is goes.status_is
       (⊎_elim
       (λ refused. inl (refused_script f (subst (λ (o : Option Command). IsBatch o) (sym is) tt) refused))
-      (λ runs. batch_run words limits before now runs.input answers true runs.lines f queue lanes workers is runs.script runs.read runs.goes)
+      (λ runs. batch_run words limits before now runs.input answers true runs.lines f queue lanes workers is runs.script runs.read runs.within runs.goes)
       goes.course)
 
   -- words that are no command, or no memory to read them

@@ -1,11 +1,12 @@
 -- A run from the opening of the shelf on, and that of a script.
 use Rattle.std.specs.Prelude.{true}
-use Rattle.std.specs.Prelude.{◌≡◌, ◌⊎◌, ℕ, List, [], Option, IsSomeAnd, IfSome}
+use Rattle.std.specs.Prelude.{◌≡◌, ◌⊎◌, ◌+◌, ℕ, List, [], Option, IsSomeAnd, IfSome}
 use Rattle.vault_types.specs.declared.Limits.{Limits}
 use Rattle.vault_types.specs.declared.Line.{Line}
 use Rattle.vault_types.specs.declared.Fault.{Fault}
 use Rattle.vault_types.specs.declared.Answer.{Answer}
 use Rattle.vault_traits.specs.Told.{SourceTold}
+use Rattle.script_laws.specs.Calls.{GivesAtMost}
 use Rattle.run_laws.specs.World.{World, status_after, IsTold}
 use Rattle.run_laws.specs.Early.{IsScript, IsScriptFault}
 use Rattle.run_laws.specs.Run.{EndsAtOpening, RanLines, RunsOpened, with_input}
@@ -18,6 +19,7 @@ pub record GoesOn (Runs : World → World → List Answer → Option Fault → T
 -- a script could not be read: there is no answer, and nothing was written but the fault's line
 pub record RefusesScript (limits : Limits) (before now : World) (answers : List Answer) (f : Fault) : Type 0 where
   pub why : IsScriptFault limits before.input now.input f
+  pub within : GivesAtMost (limits.script + 1) before.input now.input
   pub none : answers ≡ []
   pub shelf : now.shelf ≡ before.shelf
   pub places : now.places ≡ before.places
@@ -30,6 +32,7 @@ pub record RunsScript (limits : Limits) (before now : World) (answers : List Ans
   pub lines : List Line
   pub script : IsScript limits before.input lines
   pub read : IfSome input.left (λ rest. rest ≡ [])
+  pub within : GivesAtMost (limits.script + 1) before.input input
   pub goes : IsSomeAnd f (EndsAtOpening (with_input before input) now answers) ⊎ RunsOpened (RanLines true lines limits) (with_input before input) now answers f
 
 pub record BatchGoes (limits : Limits) (before now : World) (answers : List Answer) (f : Option Fault) (status : ℕ) : Type 0 where

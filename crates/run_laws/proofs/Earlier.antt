@@ -65,6 +65,9 @@ runs_earlier in_order limits lines answers mid new before now n later From To Kn
   causes = some_earlier (counts_over mid before) (counts_over new now) n lines answers later r.causes;
   ordered = λ e. causes_earlier (counts_over mid before) (counts_over new now) n answers later (r.ordered e);
   others = r.others;
+  reads = r.reads;
+  read = r.read;
+  there = r.there;
   means = λ S sources to fed. means_earlier limits lines answers mid new n later sources S (Known S) (Told S) (told S to) (r.means S sources (from S to) fed);
   outputs = λ S sources to fed. r.outputs S sources (from S to) fed;
   complete = λ S sources to fed all. complete_earlier limits sources S lines answers (counts_over mid before) (counts_over new now) n later (r.complete S sources (from S to) fed all);

@@ -1,11 +1,13 @@
 -- Runs of one line behind an opening.
-use Rattle.std.proofs.Common.{◌≡◌, ◌≤◌, ℕ, IsTrue, List, [], ◌∷◌, Option, Some, None, refl, sym, subst}
-use Rattle.std.specs.Prelude.{Result, Ok, Err, OnOk, IfSome, false}
+use Rattle.std.proofs.Common.{◌≡◌, ◌≤◌, ℕ, true, IsTrue, List, [], ◌∷◌, Option, Some, None, refl, sym, ap, ◌∙◌, subst}
+use Rattle.std.specs.Prelude.{Result, Ok, Err, OnOk, IfOk, IfSome, unwrap_or, false}
 use Rattle.vault_types.specs.declared.Limits.{Limits}
 use Rattle.vault_types.specs.declared.JobConfig.{JobConfig}
 use Rattle.vault_types.specs.declared.Name.{Name}
 use Rattle.vault_types.specs.declared.Fault.{Fault}
+use Rattle.vault_types.specs.declared.Fault.TheVariants as fault
 use Rattle.vault_types.specs.declared.Answer.{Answer}
+use Rattle.vault_types.specs.declared.Answer.TheVariants.{Refused}
 use Rattle.vault_types.specs.declared.Line.{Line}
 use Rattle.vault_types.specs.declared.Line.TheVariants.{Backup, Restore, Delete}
 use Rattle.vault_types.specs.Events.{Change}
@@ -28,17 +30,17 @@ use Rattle.run_laws.proofs.Earlier.{with_store, causes_earlier, complete_earlier
 
 module _ {K : Type 0} (shelf : K → ShelfTold) (keeps : K → State → Option Change → Type 0) (known : K → Name → Type 0) (keeps_is : (k : K) (S : State) (other : Option Change) → keeps k S other → IsKept (shelf k) S other)
     (strays_known : (k : K) (S : State) (other : Option Change) → keeps k S other → (n : Name) → StraysOf (shelf k) S n → known k n) where
-  line_run : (limits : Limits) (Fed : List ℕ → Type 0) (line : Line) (before : ShelfTold) (k k' : K) (a : Answer) (old new : Counts) → IsSameBut before (shelf k) → old.store ≡ (shelf k).faults
+  line_run : (limits : Limits) (x : List ℕ) (line : Line) (before : ShelfTold) (k k' : K) (a : Answer) (old new : Counts) → IsSameBut before (shelf k) → old.store ≡ (shelf k).faults
       → ((S : State) → Begins before S → keeps k S None) → ((S : State) → Begins before S → (n : Name) → known k n → StraysOf before S n) → IsTrue (fits limits line a) → CausesRise old new (a ∷ [])
-      → ((S : State) (x : List ℕ) → keeps k S None → Fed x → (next : Option Change) × keeps k' (after (λ _. x) S line a) next × StepsOn limits (λ _. x) S None line a next (known k) (known k') (shelf k) (shelf k'))
-      → RunsLine limits Fed line before (shelf k') a (with_store old before.faults) new
-  line_run limits Fed line before k k' a old new same store begins told kind causes steps = record {
+      → ((S : State) → keeps k S None → (next : Option Change) × keeps k' (after (λ _. x) S line a) next × StepsOn limits (λ _. x) S None line a next (known k) (known k') (shelf k) (shelf k'))
+      → RunsLine limits x line before (shelf k') a (with_store old before.faults) new
+  line_run limits x line before k k' a old new same store begins told kind causes steps = record {
     kind = kind;
     causes = causes_earlier old new before.faults (a ∷ []) later causes;
-    means = λ S x start fed. means_opened limits (λ _. x) S (line ∷ []) (a ∷ []) (known k) (StraysOf before S) before (shelf k) (shelf k') (told S start) same
-        (one_line_means shelf keeps known keeps_is strays_known limits (λ _. x) S k k' line a (begins S start) (steps S x (begins S start) fed));
-    complete = λ S x start fed all.
-        let step = steps S x (begins S start) fed in
+    means = λ S start. means_opened limits (λ _. x) S (line ∷ []) (a ∷ []) (known k) (StraysOf before S) before (shelf k) (shelf k') (told S start) same
+        (one_line_means shelf keeps known keeps_is strays_known limits (λ _. x) S k k' line a (begins S start) (steps S (begins S start)));
+    complete = λ S start all.
+        let step = steps S (begins S start) in
         complete_earlier limits (λ _. x) S (line ∷ []) (a ∷ []) old new before.faults later
         (record {
           each = (step.2.complete all, tt);
@@ -50,12 +52,9 @@ module _ {K : Type 0} (shelf : K → ShelfTold) (keeps : K → State → Option 
       later : before.faults ≤ old.store
       later = subst (λ (n : ℕ). before.faults ≤ n) (sym store) same.later
 
-  -- with no bytes given
-  none_given : (limits : Limits) (S : State) (line : Line) (k k' : K) (a : Answer) (x : List ℕ) → x ≡ []
-      → (next : Option Change) × keeps k' (after (λ _. []) S line a) next × StepsOn limits (λ _. []) S None line a next (known k) (known k') (shelf k) (shelf k')
-      → (next : Option Change) × keeps k' (after (λ _. x) S line a) next × StepsOn limits (λ _. x) S None line a next (known k) (known k') (shelf k) (shelf k')
-  none_given limits S line k k' a x none step =
-      subst (λ (y : List ℕ). (next : Option Change) × keeps k' (after (λ _. y) S line a) next × StepsOn limits (λ _. y) S None line a next (known k) (known k') (shelf k) (shelf k')) (sym none) step
+  refused_by : (result : Result Answer Fault) (n : ℕ) → IfOk result (λ a. is_refused a ≡ false) → answer_of result ≡ Refused (fault.TooMany n) → result ≡ Err (fault.TooMany n)
+  refused_by (Ok a) n done is = let clash : true ≡ false = sym (ap is_refused is) ∙ done in cc
+  refused_by (Err f) n done is = cc
 
   to_the_end : (result : Result Answer Fault) (now : SourceTold) → OnOk result (IfSome now.left (λ rest. rest ≡ [])) → is_refused (answer_of result) ≡ false → IfSome now.left (λ rest. rest ≡ [])
   to_the_end (Ok a) now end done = end
@@ -67,6 +66,10 @@ module _ {K : Type 0} (shelf : K → ShelfTold) (keeps : K → State → Option 
   backup_run limits before now k k' s config result f same closed told begins call printed report places = record {
     answer = answer_of result;
     one = refl;
+    read = call.read;
+    given = call.given;
+    within = call.within;
+    too_many = λ n is. call.too_many n (refused_by result n call.done is);
     runs = runs;
     to_the_end = λ done. to_the_end result now.input call.to_the_end done;
     printed = printed;
@@ -74,10 +77,10 @@ module _ {K : Type 0} (shelf : K → ShelfTold) (keeps : K → State → Option 
     places = places;
   }
     where
-      runs : RunsLine limits (λ x. before.input.left ≡ Some x) (Backup s [] config) before.shelf now.shelf (answer_of result) (counts_of_source before.shelf before.input) (counts_of_source now.shelf now.input)
-      runs = subst (λ (t : ShelfTold). RunsLine limits (λ x. before.input.left ≡ Some x) (Backup s [] config) before.shelf t (answer_of result) (counts_of_source before.shelf before.input) (counts_of_source t now.input)) (sym closed)
-          (line_run limits (λ x. before.input.left ≡ Some x) (Backup s [] config) before.shelf k k' (answer_of result) (counts_of_source (shelf k) before.input) (counts_of_source (shelf k') now.input)
-          same refl begins told call.kind call.causes (λ S x keep fed. call.steps S None x keep fed))
+      runs : RunsLine limits (unwrap_or before.input.left call.read) (Backup s [] config) before.shelf now.shelf (answer_of result) (counts_of_source before.shelf before.input) (counts_of_source now.shelf now.input)
+      runs = subst (λ (t : ShelfTold). RunsLine limits (unwrap_or before.input.left call.read) (Backup s [] config) before.shelf t (answer_of result) (counts_of_source before.shelf before.input) (counts_of_source t now.input)) (sym closed)
+          (line_run limits (unwrap_or before.input.left call.read) (Backup s [] config) before.shelf k k' (answer_of result) (counts_of_source (shelf k) before.input) (counts_of_source (shelf k') now.input)
+          same refl begins told call.kind call.causes (λ S keep. call.steps S None keep))
 
   pub restore_run : (limits : Limits) (before now : World) (k k' : K) (s v slots : ℕ) (result : Result Answer Fault) (f : Option Fault) → IsSameBut before.shelf (shelf k) → now.shelf ≡ shelf k'
       → ((S : State) → Begins before.shelf S → (n : Name) → known k n → StraysOf before.shelf S n) → ((S : State) → Begins before.shelf S → keeps k S None) → RestoresLine (keeps k) (keeps k') (known k) (known k') s v slots (shelf k) (shelf k') before.out now.out result
@@ -92,10 +95,10 @@ module _ {K : Type 0} (shelf : K → ShelfTold) (keeps : K → State → Option 
     places = places;
   }
     where
-      runs : RunsLine limits (λ x. x ≡ []) (Restore s v [] slots) before.shelf now.shelf (answer_of result) (counts_of_sink before.shelf before.out) (counts_of_sink now.shelf now.out)
-      runs = subst (λ (t : ShelfTold). RunsLine limits (λ x. x ≡ []) (Restore s v [] slots) before.shelf t (answer_of result) (counts_of_sink before.shelf before.out) (counts_of_sink t now.out)) (sym closed)
-          (line_run limits (λ x. x ≡ []) (Restore s v [] slots) before.shelf k k' (answer_of result) (counts_of_sink (shelf k) before.out) (counts_of_sink (shelf k') now.out)
-          same refl begins told (call.kind limits) call.causes (λ S x keep none. none_given limits S (Restore s v [] slots) k k' (answer_of result) x none (call.steps S None limits keep)))
+      runs : RunsLine limits [] (Restore s v [] slots) before.shelf now.shelf (answer_of result) (counts_of_sink before.shelf before.out) (counts_of_sink now.shelf now.out)
+      runs = subst (λ (t : ShelfTold). RunsLine limits [] (Restore s v [] slots) before.shelf t (answer_of result) (counts_of_sink before.shelf before.out) (counts_of_sink t now.out)) (sym closed)
+          (line_run limits [] (Restore s v [] slots) before.shelf k k' (answer_of result) (counts_of_sink (shelf k) before.out) (counts_of_sink (shelf k') now.out)
+          same refl begins told (call.kind limits) call.causes (λ S keep. call.steps S None limits keep))
 
   pub delete_run : (limits : Limits) (before now : World) (k k' : K) (s n : ℕ) (result : Result Answer Fault) (f : Option Fault) → IsSameBut before.shelf (shelf k) → now.shelf ≡ shelf k'
       → ((S : State) → Begins before.shelf S → (n : Name) → known k n → StraysOf before.shelf S n) → ((S : State) → Begins before.shelf S → keeps k S None) → DeletesLine (keeps k) (keeps k') (known k) (known k') s n (shelf k) (shelf k') result
@@ -110,7 +113,7 @@ module _ {K : Type 0} (shelf : K → ShelfTold) (keeps : K → State → Option 
     places = places;
   }
     where
-      runs : RunsLine limits (λ x. x ≡ []) (Delete s n) before.shelf now.shelf (answer_of result) (counts_of_shelf before.shelf) (counts_of_shelf now.shelf)
-      runs = subst (λ (t : ShelfTold). RunsLine limits (λ x. x ≡ []) (Delete s n) before.shelf t (answer_of result) (counts_of_shelf before.shelf) (counts_of_shelf t)) (sym closed)
-          (line_run limits (λ x. x ≡ []) (Delete s n) before.shelf k k' (answer_of result) (counts_of_shelf (shelf k)) (counts_of_shelf (shelf k'))
-          same refl begins told (call.kind limits) call.causes (λ S x keep none. none_given limits S (Delete s n) k k' (answer_of result) x none (call.steps S None limits keep)))
+      runs : RunsLine limits [] (Delete s n) before.shelf now.shelf (answer_of result) (counts_of_shelf before.shelf) (counts_of_shelf now.shelf)
+      runs = subst (λ (t : ShelfTold). RunsLine limits [] (Delete s n) before.shelf t (answer_of result) (counts_of_shelf before.shelf) (counts_of_shelf t)) (sym closed)
+          (line_run limits [] (Delete s n) before.shelf k k' (answer_of result) (counts_of_shelf (shelf k)) (counts_of_shelf (shelf k'))
+          same refl begins told (call.kind limits) call.causes (λ S keep. call.steps S None limits keep))

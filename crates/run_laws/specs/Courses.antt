@@ -1,5 +1,5 @@
 -- What a run of each command is, from its first line on.
-use Rattle.std.specs.Prelude.{◌≡◌, ◌+◌, ◌*◌, ◌^◌, ◌&&◌, ◌==◌, ℕ, Bool, true, false, IsTrue, List, [], ◌∷◌, length, Option, Some, IsSomeAnd, IfSome}
+use Rattle.std.specs.Prelude.{◌≡◌, ◌≤◌, ◌+◌, ◌*◌, ◌^◌, ◌&&◌, ◌==◌, ℕ, Bool, true, false, IsTrue, List, [], ◌∷◌, length, unwrap_or, Option, Some, IsSomeAnd, IfSome}
 use Rattle.vault_types.specs.declared.Limits.{Limits}
 use Rattle.vault_types.specs.declared.JobConfig.{JobConfig}
 use Rattle.vault_types.specs.declared.Kind.TheVariants as kind
@@ -12,8 +12,8 @@ use Rattle.vault_types.specs.declared.Line.TheVariants.{Backup, Restore, Delete}
 use Rattle.vault_types.specs.State.{State, is_kept, floor_of, latest_of, version_of, recipe_of}
 use Rattle.vault_types.specs.Script.{is_refused}
 use Rattle.vault_types.specs.Texts.{recipe_text}
-use Rattle.vault_traits.specs.Told.{ShelfTold, SinkTold, Takes}
-use Rattle.script_laws.specs.Calls.{HasWritten}
+use Rattle.vault_traits.specs.Told.{ShelfTold, SinkTold, Gives, Takes}
+use Rattle.script_laws.specs.Calls.{GivesAtMost, HasWritten, IsTooMany}
 use Rattle.script_laws.specs.Causes.{Counts, CausesRise, fits, counts_of_source, counts_of_sink, counts_of_shelf}
 use Rattle.script_laws.specs.Complete.{IsWell, IsComplete}
 use Rattle.script_laws.specs.Leaves.{Begins}
@@ -22,28 +22,34 @@ use Rattle.script_laws.specs.Strays.{StraysOf}
 use Rattle.run_laws.specs.World.{World, IsPrinted, TakesFront, report_text}
 use Rattle.run_laws.specs.Early.{IsScript}
 
--- a script of the input's lines over the places; the report is on `out`
+-- a script of the input's lines over the places; at most one byte more than the limit was read of it; the report is on `out`
 pub record RunsBatch (in_order : Bool) (limits : Limits) (before now : World) (answers : List Answer) (f : Option Fault) : Type 0 where
   pub lines : List Line
   pub script : IsScript limits before.input lines
   pub read : IfSome now.input.left (λ rest. rest ≡ [])
+  pub within : GivesAtMost (limits.script + 1) before.input now.input
   pub runs : RunsLines in_order (Begins before.shelf) (StraysOf before.shelf) limits lines answers before.shelf now.shelf before.places now.places
   pub printed : IsPrinted (report_text answers) before.out now.out f
   pub report : now.report ≡ before.report
 
 -- the answer of a script of one line, whose source has these bytes: it is of the line's kind, a refusal has its cause, and it
 -- means what it should in each state that the shelf may begin with
-pub record RunsLine (limits : Limits) (Fed : List ℕ → Type 0) (line : Line) (before now : ShelfTold) (answer : Answer) (old new : Counts) : Type 0 where
+pub record RunsLine (limits : Limits) (x : List ℕ) (line : Line) (before now : ShelfTold) (answer : Answer) (old new : Counts) : Type 0 where
   pub kind : IsTrue (fits limits line answer)
   pub causes : CausesRise old new (answer ∷ [])
-  pub means : (S : State) (x : List ℕ) → Begins before S → Fed x → MeansScript limits (λ _. x) S (line ∷ []) (answer ∷ []) (StraysOf before S) before now
-  pub complete : (S : State) (x : List ℕ) → Begins before S → Fed x → IsWell limits (λ _. x) S (line ∷ []) → IsComplete limits (λ _. x) S (line ∷ []) (answer ∷ []) old new
+  pub means : (S : State) → Begins before S → MeansScript limits (λ _. x) S (line ∷ []) (answer ∷ []) (StraysOf before S) before now
+  pub complete : (S : State) → Begins before S → IsWell limits (λ _. x) S (line ∷ []) → IsComplete limits (λ _. x) S (line ∷ []) (answer ∷ []) old new
 
--- a backup of what the input has left; the report is on `out`
+-- a backup of what the input has left, or of what it gave where it tells nothing: at most as many bytes as the limit's
+-- chunks can have and one read more; the report is on `out`
 pub record RunsBackup (set : ℕ) (config : JobConfig) (limits : Limits) (before now : World) (answers : List Answer) (f : Option Fault) : Type 0 where
   pub answer : Answer
   pub one : answers ≡ answer ∷ []
-  pub runs : RunsLine limits (λ x. before.input.left ≡ Some x) (Backup set [] config) before.shelf now.shelf answer (counts_of_source before.shelf before.input) (counts_of_source now.shelf now.input)
+  pub read : List ℕ
+  pub given : Gives before.input.left now.input.left read
+  pub within : length read ≤ limits.chunks * 65536 + 65536
+  pub too_many : (n : ℕ) → answer ≡ Refused (fault.TooMany n) → IsTooMany limits config read now.input
+  pub runs : RunsLine limits (unwrap_or before.input.left read) (Backup set [] config) before.shelf now.shelf answer (counts_of_source before.shelf before.input) (counts_of_source now.shelf now.input)
   pub to_the_end : is_refused answer ≡ false → IfSome now.input.left (λ rest. rest ≡ [])
   pub printed : IsPrinted (report_text answers) before.out now.out f
   pub report : now.report ≡ before.report
@@ -53,7 +59,7 @@ pub record RunsBackup (set : ℕ) (config : JobConfig) (limits : Limits) (before
 pub record RunsRestore (set version cache : ℕ) (limits : Limits) (before now : World) (answers : List Answer) (f : Option Fault) : Type 0 where
   pub answer : Answer
   pub one : answers ≡ answer ∷ []
-  pub runs : RunsLine limits (λ x. x ≡ []) (Restore set version [] cache) before.shelf now.shelf answer (counts_of_sink before.shelf before.out) (counts_of_sink now.shelf now.out)
+  pub runs : RunsLine limits [] (Restore set version [] cache) before.shelf now.shelf answer (counts_of_sink before.shelf before.out) (counts_of_sink now.shelf now.out)
   pub written : (S : State) → Begins before.shelf S → HasWritten S set version answer before.out.taken now.out.taken
   pub printed : IsPrinted (report_text answers) before.report now.report f
   pub input : now.input ≡ before.input
@@ -63,7 +69,7 @@ pub record RunsRestore (set version cache : ℕ) (limits : Limits) (before now :
 pub record RunsDelete (set through : ℕ) (limits : Limits) (before now : World) (answers : List Answer) (f : Option Fault) : Type 0 where
   pub answer : Answer
   pub one : answers ≡ answer ∷ []
-  pub runs : RunsLine limits (λ x. x ≡ []) (Delete set through) before.shelf now.shelf answer (counts_of_shelf before.shelf) (counts_of_shelf now.shelf)
+  pub runs : RunsLine limits [] (Delete set through) before.shelf now.shelf answer (counts_of_shelf before.shelf) (counts_of_shelf now.shelf)
   pub printed : IsPrinted (report_text answers) before.out now.out f
   pub report : now.report ≡ before.report
   pub input : now.input ≡ before.input

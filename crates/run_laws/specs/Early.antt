@@ -1,5 +1,5 @@
 -- A run that ended before its first line.
-use Rattle.std.specs.Prelude.{◌≡◌, ◌⊎◌, ◌<◌, ◌≤◌, ℕ, List, [], ◌∷◌, length, Option, Some, None, IfSome, Ok, Err}
+use Rattle.std.specs.Prelude.{◌≡◌, ◌⊎◌, ◌<◌, ◌≤◌, ◌+◌, ℕ, List, [], ◌∷◌, length, Option, Some, None, IfSome, Ok, Err}
 use Rattle.vault_types.specs.declared.Limits.{Limits}
 use Rattle.vault_types.specs.declared.Command.{Command}
 use Rattle.vault_types.specs.declared.Command.TheVariants as command
@@ -14,6 +14,7 @@ use Rattle.vault_traits.specs.Told.{ShelfTold, SourceTold}
 use Rattle.blob_parts.specs.Causes.{IsCause}
 use Rattle.keeper_catalog.specs.View.{Opens}
 use Rattle.keeper_open.specs.Damage.{IsDamageOf}
+use Rattle.script_laws.specs.Calls.{GivesAtMost}
 use Rattle.run_laws.specs.World.{World, IsTold}
 
 abbrev pub IsBatch : Option Command → Type 0
@@ -71,12 +72,13 @@ LeavesShelfAlone before now (fault.ScriptTooLong limit) = now ≡ before
 LeavesShelfAlone before now (fault.BadLine n) = now ≡ before
 LeavesShelfAlone before now other = IsSameBut before now
 
--- there is no answer, and nothing was written but the fault's line; only a script's command reads the input
+-- there is no answer, and nothing was written but the fault's line; only a script's command reads the input, and at most one
+-- byte more than the limit
 pub record EndsEarly (words : List (List ℕ)) (limits : Limits) (before now : World) (answers : List Answer) (f : Fault) : Type 0 where
   pub why : IsEarly words limits before now f
   pub none : answers ≡ []
   pub shelf : LeavesShelfAlone before.shelf now.shelf f
   pub places : now.places ≡ before.places
-  pub input : IsBatch (command_of words) ⊎ (now.input ≡ before.input)
+  pub input : (IsBatch (command_of words) × GivesAtMost (limits.script + 1) before.input now.input) ⊎ (now.input ≡ before.input)
   pub out : now.out ≡ before.out
   pub line : IsTold f before.report now.report

@@ -3,7 +3,7 @@
 //! words.
 #![tactic(auto)]
 
-ghost use Rattle.std.specs.Prelude.{◌≡◌, ◌⊎◌, ℕ, Bool, List, [], ◌∷◌, Option, Some, None, IfSome, IsSomeAnd, Result};
+ghost use Rattle.std.specs.Prelude.{◌≡◌, ◌⊎◌, ◌+◌, ℕ, Bool, List, [], ◌∷◌, Option, Some, None, IfSome, IsSomeAnd, Result};
 ghost use Rattle.std.specs.List.{filter_map};
 ghost use Rattle.vault_types.specs.declared.Answer.{Answer};
 ghost use Rattle.vault_types.specs.declared.Command.TheVariants as command;
@@ -15,7 +15,7 @@ ghost use Rattle.vault_types.specs.declared.Name.{Name};
 ghost use Rattle.vault_types.specs.State.{State};
 ghost use Rattle.vault_types.specs.Words.{command_of};
 ghost use Rattle.vault_traits.specs.Told.{PlacesTold, ShelfTold, SourceTold};
-ghost use Rattle.script_laws.specs.Calls.{BacksUpLine, DeletesLine, RestoresLine};
+ghost use Rattle.script_laws.specs.Calls.{BacksUpLine, DeletesLine, GivesAtMost, RestoresLine};
 ghost use Rattle.script_laws.specs.Causes.{place_number, read_number};
 ghost use Rattle.script_laws.specs.Leaves.{Begins};
 ghost use Rattle.script_laws.specs.Script.{RunsLines};
@@ -36,13 +36,13 @@ use script_laws::StateKeeper;
 /// could be read.
 pub fn openings_end_early()
     ensures { (words : List (List ℕ)) (limits : Limits) (before now : World) (input : SourceTold) (answers : List Answer) (f : Fault) → CanOpen (command_of words) limits before.input
-        → IsBatch (command_of words) ⊎ (input ≡ before.input) → EndsAtOpening (with_input before input) now answers f → EndsEarly words limits before now answers f }
+        → (IsBatch (command_of words) × GivesAtMost (limits.script + 1) before.input input) ⊎ (input ≡ before.input) → EndsAtOpening (with_input before input) now answers f → EndsEarly words limits before now answers f }
 {}
 
 /// A script that was read to its end is run, or its run ends where the shelf is opened.
 pub fn scripts_are_batches()
     ensures { (words : List (List ℕ)) (limits : Limits) (before now : World) (input : SourceTold) (answers : List Answer) (lines : List Line) (f : Option Fault) (queue lanes workers : ℕ) (in_order : Bool)
-        → command_of words ≡ Some (command.Batch queue lanes workers) → IsScript limits before.input lines → IfSome input.left (λ rest. rest ≡ [])
+        → command_of words ≡ Some (command.Batch queue lanes workers) → IsScript limits before.input lines → IfSome input.left (λ rest. rest ≡ []) → GivesAtMost (limits.script + 1) before.input input
         → IsSomeAnd f (EndsAtOpening (with_input before input) now answers) ⊎ RunsOpened (RanLines in_order lines limits) (with_input before input) now answers f
         → IsSomeAnd f (EndsEarly words limits before now answers) ⊎ RunsOpened (RunsBatch in_order limits) before now answers f }
 {}

@@ -9,6 +9,7 @@ use Rattle.vault_types.specs.declared.Fault.{Fault}
 use Rattle.vault_types.specs.declared.Fault.TheVariants as fault
 use Rattle.vault_types.specs.Words.{script_of}
 use Rattle.vault_traits.specs.Told.{SourceTold, Gives}
+use Rattle.script_laws.specs.Calls.{GivesAtMost}
 use Rattle.run_laws.specs.Early.{IsScript, IsScriptFault}
 use Rattle.script_input.specs.Reading.{HasGiven, IsAtEnd, IsTextFault}
 
@@ -25,6 +26,16 @@ given_nothing from = record { given = gives_nothing from.left; later = omega ari
 
 pub given_then : (from mid to : SourceTold) (x y : List ℕ) → HasGiven from mid x → HasGiven mid to y → HasGiven from to (x ++ y)
 given_then from mid to x y h j = record { given = gives_then from.left mid.left to.left x y h.given j.given; later = omega (arith, h.later, j.later) }
+
+-- at most so many bytes were given
+pub at_most : (from to : SourceTold) (x : List ℕ) (most : ℕ) → Gives from.left to.left x → length x ≤ most → GivesAtMost most from to
+at_most from to x most g few = (x, g, few)
+
+pub at_most_none : (from to : SourceTold) (most : ℕ) → to.left ≡ from.left → GivesAtMost most from to
+at_most_none from to most same = ([], subst (λ (o : Option (List ℕ)). Gives from.left o []) (sym same) (gives_nothing from.left), omega arith)
+
+pub at_most_then : (from mid to : SourceTold) (x : List ℕ) (more most : ℕ) → HasGiven from mid x → GivesAtMost more mid to → length x + more ≤ most → GivesAtMost most from to
+at_most_then from mid to x more most h (y, g, few) enough = (x ++ y, gives_then from.left mid.left to.left x y h.given g, rw (length-append x y) (omega (arith, few, enough)))
 
 -- more than so many bytes were given
 gives_more : (left rest : Option (List ℕ)) (text : List ℕ) (limit : ℕ) → Gives left rest text → limit < length text → IfSome left (λ x. limit < length x)

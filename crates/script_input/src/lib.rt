@@ -3,6 +3,7 @@
 
 ghost use Rattle.std.specs.Prelude.{◌≡◌, ◌≤◌, ◌<◌, ◌+◌, ◌++◌, ℕ, List, length, IfOk, IfErr, OnOk};
 ghost use Rattle.std.specs.List.{AllByRecursion};
+ghost use Rattle.script_laws.specs.Calls.{GivesAtMost};
 ghost use Rattle.script_laws.specs.Outputs.{AreApartLines};
 ghost use Rattle.run_laws.specs.Early.{IsScript, IsScriptFault};
 ghost use Rattle.word_ranges.specs.Ranges.{AreLimits, IsLineInRange};
@@ -18,6 +19,7 @@ fn read_piece<I: Source>(input: &mut I, most: usize, text: &mut Vec<u8>) -> Resu
     requires { 1 ≤ most }
     ensures ok { IfOk result (λ n. (piece : List ℕ) × (text.new.items ≡ text.old.items ++ piece) × (length piece ≡ n) × (n ≤ most) × HasGiven (I.told input.old) (I.told input.new) piece × (n ≡ 0 → IsAtEnd (I.told input.new))) }
     ensures err { (limit : ℕ) → IfErr result (IsTextFault limit (I.told input.old) (I.told input.new)) }
+    ensures bound { GivesAtMost most (I.told input.old) (I.told input.new) }
 {
     let mut piece = [0; 4096];
     let len = most.min(4096);
@@ -35,6 +37,7 @@ fn read_text<I: Source>(alloc: Global, input: &mut I, limit: u32) -> Result<Vec<
     requires { limit ≤ 1048576 }
     ensures ok { IfOk result (λ text. HasGiven (I.told input.old) (I.told input.new) text.items × (length text.items ≤ limit) × IsAtEnd (I.told input.new)) }
     ensures err { IfErr result (IsTextFault limit (I.told input.old) (I.told input.new)) }
+    ensures bound { GivesAtMost (limit + 1) (I.told input.old) (I.told input.new) }
 {
     let mut text = Vec::new(alloc);
     let most = limit as usize;
@@ -52,7 +55,8 @@ fn read_text<I: Source>(alloc: Global, input: &mut I, limit: u32) -> Result<Vec<
 }
 
 /// Reads the lines of a script from the source, to its end or to one byte past the limit. `ReadFault`, where the source
-/// failed; `ScriptTooLong`; `BadLine`, with the number of the first line that is none; `Memory`.
+/// failed; `ScriptTooLong`; `BadLine`, with the number of the first line that is none; `Memory`. Whatever comes of it, no
+/// byte more is read.
 pub fn read_lines<I: Source>(
     alloc: Global,
     input: &mut I,
@@ -63,6 +67,7 @@ pub fn read_lines<I: Source>(
     ensures ranges { IfOk result (λ lines. AllByRecursion IsLineInRange lines.items) }
     ensures apart { IfOk result (λ lines. AreApartLines lines.items) }
     ensures read { OnOk result (IsAtEnd (I.told input.new)) }
+    ensures bound { GivesAtMost (limits.now.script + 1) (I.told input.old) (I.told input.new) }
     ensures err { IfErr result (IsScriptFault limits.now (I.told input.old) (I.told input.new)) }
 {
     let text = read_text(alloc, input, limits.script)?;

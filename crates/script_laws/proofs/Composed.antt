@@ -28,7 +28,7 @@ use Rattle.script_laws.proofs.Ordering.{causes_in_order}
 use Rattle.script_laws.proofs.Names.{files_then, others_then}
 use Rattle.script_laws.proofs.Near.{nearly}
 use Rattle.script_laws.proofs.Counting.{few_counted}
-use Rattle.script_laws.proofs.Following.{LeftBy, Follows, follows, table, keeps_last, loads, strays, outputs, well}
+use Rattle.script_laws.proofs.Following.{LeftBy, Follows, follows, are_read, are_there, reads_of, table, keeps_last, loads, strays, outputs, well}
 use Rattle.script_laws.proofs.Crashing.{crashes, once}
 
 -- behind lines that began with no change, those that may be left
@@ -128,9 +128,9 @@ module _ {K : Type 0} (shelf : K → ShelfTold) (keeps : K → State → Option 
         reached = λ front rest given more T before gave long safe valid is.
             let both = goes (wide limits sources lines) sources S None old new lines answers chain (wide_well limits sources S lines safe) in
             let r = reached_behind (wide limits sources lines) limits sources T valid S front rest given more long
-                (subst (λ (ls : List Line). Goes (wide limits sources lines) sources S ls (given ++ more)) before (subst (λ (xs : List Answer). Goes (wide limits sources lines) sources S lines xs) gave both.0))
-                (subst (λ (ls : List Line). MeanLines limits sources S ls (given ++ more)) before (subst (λ (xs : List Answer). MeanLines limits sources S lines xs) gave (table shelf keeps known limits sources S None old new lines answers chain)))
-                (subst (λ (ls : List Line). IsSound (state_after sources S ls (given ++ more))) before (subst (λ (xs : List Answer). IsSound (state_after sources S lines xs)) gave both.1)) is in
+            (subst (λ (ls : List Line). Goes (wide limits sources lines) sources S ls (given ++ more)) before (subst (λ (xs : List Answer). Goes (wide limits sources lines) sources S lines xs) gave both.0))
+            (subst (λ (ls : List Line). MeanLines limits sources S ls (given ++ more)) before (subst (λ (xs : List Answer). MeanLines limits sources S lines xs) gave (table shelf keeps known limits sources S None old new lines answers chain)))
+            (subst (λ (ls : List Line). IsSound (state_after sources S ls (given ++ more))) before (subst (λ (xs : List Answer). IsSound (state_after sources S lines xs)) gave both.1)) is in
             (r.0.sound, r.1);
       }
 
@@ -157,8 +157,11 @@ module _ {K : Type 0} (shelf : K → ShelfTold) (keeps : K → State → Option 
     causes = causes_in_order (counts old) (counts new) lines answers (causes old new lines answers chain);
     ordered = λ e. causes old new lines answers chain;
     others = others old new lines answers chain;
-    means = λ S sources keep fed. means sources S old new lines answers keep (follows shelf keeps known limits sources S None old new [] [] lines answers keep fed apart chain);
+    reads = reads_of shelf keeps known limits old new lines answers chain;
+    read = are_read shelf keeps known limits old new [] [] lines answers apart chain;
+    there = are_there shelf keeps known limits old new [] [] lines answers apart chain;
+    means = λ S sources keep fed. means sources S old new lines answers keep (follows shelf keeps known limits sources S None old new lines answers keep chain fed);
     outputs = λ S sources keep fed. only_outputs sources S lines answers old.places.files new.places.files
-        (outputs shelf keeps known limits sources S None old new [] [] lines answers apart (follows shelf keeps known limits sources S None old new [] [] lines answers keep fed apart chain));
-    complete = λ S sources keep fed all. completes sources S old new lines answers chain (follows shelf keeps known limits sources S None old new [] [] lines answers keep fed apart chain) all;
+        (outputs shelf keeps known limits sources S None old new [] [] lines answers apart (follows shelf keeps known limits sources S None old new lines answers keep chain fed));
+    complete = λ S sources keep fed all. completes sources S old new lines answers chain (follows shelf keeps known limits sources S None old new lines answers keep chain fed) all;
   }

@@ -1,6 +1,7 @@
 -- What a chain of lines comes to in a state.
 use Rattle.std.proofs.Common.{◌≡◌, ◌⊎◌, inl, inr, ⊎_elim, ◌≤◌, ◌+◌, ◌-◌, ◌*◌, ℕ, Bool, true, false, not, ◌&&◌, ◌||◌, IsTrue, List, [], ◌∷◌, ◌++◌, Option, Some, None, refl, sym, ◌∙◌, ap, subst, arith, length-append}
-use Rattle.std.specs.Prelude.{Contains, IsSomeAnd, MatchBool}
+use Rattle.std.specs.Prelude.{Contains, IfSome, IsSomeAnd, MatchBool, unwrap_or}
+use Rattle.std.specs.List.{AllByRecursion}
 use Rattle.std.proofs.lemmas.List.Elements.{Contains-append_left, Contains-append_right}
 use Rattle.vault_types.specs.declared.Limits.{Limits}
 use Rattle.vault_types.specs.declared.Name.{Name}
@@ -17,12 +18,12 @@ use Rattle.vault_traits.specs.Told.{ShelfTold, Files}
 use Rattle.script_laws.specs.Table.{MeanLines}
 use Rattle.script_laws.specs.Leaves.{has_change, MayBeDone, StandsForOne, HalfBehind, HasLoaded}
 use Rattle.script_laws.specs.Complete.{AreWellAnswered}
-use Rattle.script_laws.specs.Outputs.{OnFiles, KeepsOthers, IsOutputOf, AreOutputs, AreFedBy, AreApartFrom}
+use Rattle.script_laws.specs.Outputs.{OnFiles, KeepsOthers, IsOutputOf, AreOutputs, AreApartFrom, Reads, AreRead, AreFed, AreThere}
 use Rattle.script_laws.specs.Strays.{IsNumberedBy, MayStayBehind, MayStay, StraysAreKnown}
 use Rattle.script_laws.specs.Steps.{Moment, StepsLine, StepsOn, IsNextOther, StandsWith, Chain}
 use Rattle.script_laws.proofs.Staying.{AreWell}
 use Rattle.script_laws.proofs.Rising.{counted_up_twice}
-use Rattle.script_laws.proofs.Names.{files_then, others_then, fed_first, fed_rest, output_then, outputs_then}
+use Rattle.script_laws.proofs.Names.{files_then, others_then, all_front, all_back, read_then, there_then, output_then, outputs_then}
 
 -- ---- one state and the next
 
@@ -131,23 +132,53 @@ module _ {K : Type 0} (shelf : K → ShelfTold) (keeps : K → State → Option 
       × OnFiles old.places.files mid.places.files (IsOutputOf S line answer)
       × Follows sources (after sources S line answer) next mid lines answers new
 
-  pub follows : (sources : Sources) (S : State) (other : Option Change) (old new : Moment K) (before outputs : List (List ℕ)) (lines : List Line) (answers : List Answer)
-      → keeps old.keeper S other → AreFedBy old.places.files sources lines → AreApartFrom before outputs lines → Chain (StepsLine shelf keeps known limits) old lines answers new
+  -- what the lines of a chain read
+  abbrev pub reads_of : (old new : Moment K) (lines : List Line) (answers : List Answer) → Chain (StepsLine shelf keeps known limits) old lines answers new → Reads
+  reads_of old new [] [] chain = []
+  reads_of old new [] (answer ∷ answers) chain = []
+  reads_of old new (line ∷ lines) [] chain = []
+  reads_of old new (line ∷ lines) (answer ∷ answers) chain = chain.1.reads ++ reads_of chain.0 new lines answers chain.2
+
+  pub are_read : (old new : Moment K) (before outputs : List (List ℕ)) (lines : List Line) (answers : List Answer) → AreApartFrom before outputs lines → (chain : Chain (StepsLine shelf keeps known limits) old lines answers new)
+      → AreRead old.places.files lines (reads_of old new lines answers chain)
+  are_read old new before outputs [] [] apart chain = record { names = refl; told = none old.places.files }
+    where
+      none : (o : Option Files) → IfSome o (λ f. AllByRecursion (λ (r : List ℕ × List ℕ). r.1 ≡ unwrap_or (f r.0) []) [])
+      none None = tt
+      none (Some f) = tt
+  are_read old new before outputs [] (answer ∷ answers) apart chain = absurd chain
+  are_read old new before outputs (line ∷ lines) [] apart chain = absurd chain
+  are_read old new before outputs (line ∷ lines) (answer ∷ answers) apart chain =
+      read_then old.places.files chain.0.places.files (before ++ sources_of line) outputs line lines chain.1.reads (reads_of chain.0 new lines answers chain.2) apart.1 chain.1.others chain.1.read
+      (are_read chain.0 new (before ++ sources_of line) (outputs ++ outputs_of line) lines answers apart.1 chain.2)
+
+  pub are_there : (old new : Moment K) (before outputs : List (List ℕ)) (lines : List Line) (answers : List Answer) → AreApartFrom before outputs lines → Chain (StepsLine shelf keeps known limits) old lines answers new
+      → AreThere old.places.files lines answers
+  are_there old new before outputs [] answers apart chain = tt
+  are_there old new before outputs (line ∷ lines) [] apart chain = tt
+  are_there old new before outputs (line ∷ lines) (answer ∷ answers) apart chain = (
+    chain.1.there,
+    there_then old.places.files chain.0.places.files (before ++ sources_of line) outputs line lines answers apart.1 chain.1.others
+        (are_there chain.0 new (before ++ sources_of line) (outputs ++ outputs_of line) lines answers apart.1 chain.2),
+  )
+
+  pub follows : (sources : Sources) (S : State) (other : Option Change) (old new : Moment K) (lines : List Line) (answers : List Answer)
+      → keeps old.keeper S other → (chain : Chain (StepsLine shelf keeps known limits) old lines answers new) → AreFed sources (reads_of old new lines answers chain)
       → Follows sources S other old lines answers new
-  follows sources S other old new before outputs [] [] keep fed apart chain = chain
-  follows sources S other old new before outputs [] (answer ∷ answers) keep fed apart chain = absurd chain
-  follows sources S other old new before outputs (line ∷ lines) [] keep fed apart chain = absurd chain
-  follows sources S other old new before outputs (line ∷ lines) (answer ∷ answers) keep fed apart (mid, step, chain) =
-      let one : AreFedBy old.places.files sources (line ∷ []) = fed_first old.places.files sources line lines fed in
-      let means = step.means S other sources keep one in (
-        mid,
+  follows sources S other old new [] [] keep chain fed = chain
+  follows sources S other old new [] (answer ∷ answers) keep chain fed = absurd chain
+  follows sources S other old new (line ∷ lines) [] keep chain fed = absurd chain
+  follows sources S other old new (line ∷ lines) (answer ∷ answers) keep chain fed =
+      let step = chain.1 in
+      let more : Reads = reads_of chain.0 new lines answers chain.2 in
+      let means = step.means S other sources keep (all_front (λ (r : List ℕ × List ℕ). sources r.0 ≡ r.1) step.reads more fed) in (
+        chain.0,
         means.0,
         means.1,
         means.2,
         step.others,
-        step.output S other sources keep one,
-        follows sources (after sources S line answer) means.0 mid new (before ++ sources_of line) (outputs ++ outputs_of line) lines answers means.1
-            (fed_rest old.places.files mid.places.files sources (before ++ sources_of line) outputs line lines apart.1 step.others fed) apart.1 chain,
+        step.output S other keep,
+        follows sources (after sources S line answer) means.0 chain.0 new lines answers means.1 chain.2 (all_back (λ (r : List ℕ × List ℕ). sources r.0 ≡ r.1) step.reads more fed),
       )
 
   pub table : (sources : Sources) (S : State) (other : Option Change) (old new : Moment K) (lines : List Line) (answers : List Answer) → Follows sources S other old lines answers new → MeanLines limits sources S lines answers

@@ -14,3 +14,4 @@ pub mod LineLemmas
 pub mod WholeLines
 pub mod Sound
 pub mod Rooms
+pub mod Reading

@@ -346,18 +346,6 @@ kind_backup limits s name config (Shown a b c) h = h
 kind_backup limits s name config (Migrated a) h = h
 kind_backup limits s name config (Scrubbed a b) h = h
 
--- a reader of the name has the source's bytes left
-pub fed_reader : (files : Option Files) (sources : Sources) (s : ℕ) (name text : List ℕ) (config : JobConfig) (r : SourceTold) → text ≡ name → IsReaderOf files text r → AreFedBy files sources (Backup s name config ∷ []) → r.left ≡ Some (sources name)
-fed_reader files sources s name text config r same reader fed = by files (subst (λ (n : List ℕ). IfSome files (λ f. IsSome (f n) × (r.left ≡ f n))) same reader.left) (fed name (Contains-push [] name))
-  where
-    some : (o : Option (List ℕ)) → IsSome o → o ≡ Some (unwrap_or o [])
-    some None h = cc
-    some (Some x) h = refl
-
-    by : (o : Option Files) → IfSome o (λ f. IsSome (f name) × (r.left ≡ f name)) → IsSomeAnd o (λ f. sources name ≡ unwrap_or (f name) []) → r.left ≡ Some (sources name)
-    by None h k = absurd k
-    by (Some f) h k = h.1 ∙ some (f name) h.0 ∙ ap (λ (x : List ℕ). Some x) (sym k)
-
 -- ---- files that are kept
 
 pub kept_files : (line : Line) (a b : Option Files) → AreKept a b → OnFiles a b (KeepsOthers (line ∷ []))

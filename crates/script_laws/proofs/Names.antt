@@ -1,19 +1,21 @@
 -- Names of sources and outputs that are apart, and the bytes under them.
 use Rattle.std.proofs.Common.{◌≡◌, ◌⊎◌, inl, inr, ◌≤◌, ℕ, Bool, true, false, not, ◌&&◌, ◌||◌, IsTrue, List, [], ◌∷◌, ◌++◌, Option, Some, None, refl, sym, ◌∙◌, ap, subst, append_assoc}
-use Rattle.std.specs.Prelude.{Contains, flat_map, IsSomeAnd, unwrap_or}
-use Rattle.std.specs.List.{list_any}
+use Rattle.std.specs.Prelude.{Contains, map, flat_map, IsSome, IsSomeAnd, IfSome, unwrap_or}
+use Rattle.std.specs.List.{AllByRecursion, list_any}
+use Rattle.std.proofs.lemmas.List.{append-nil, map-append}
 use Rattle.std.specs.Str.{bytes_eq}
 use Rattle.vault_types.proofs.FillLemmas.{bytes_eq-same, same_bytes}
 use Rattle.std.proofs.lemmas.List.Elements.{Contains-append_left, Contains-append_right, Contains-append_cases, Contains-push_cases, Contains-push}
 use Rattle.vault_types.specs.declared.Line.{Line}
 use Rattle.vault_types.specs.declared.Line.TheVariants.{Backup, Restore, Delete}
 use Rattle.vault_types.specs.Words.{sources_of, outputs_of, are_apart, is_one_of}
-use Rattle.vault_types.specs.Script.{Sources, after}
+use Rattle.vault_types.specs.Script.{Sources, after, is_refused}
+use Rattle.vault_traits.specs.Files.{IsThere}
 use Rattle.vault_traits.specs.Told.{Files}
 use Rattle.vault_types.specs.declared.Answer.{Answer}
 use Rattle.vault_types.specs.State.{State}
 use Rattle.vault_types.specs.Bytes.{bytes_of}
-use Rattle.script_laws.specs.Outputs.{KeepsOthers, OnFiles, AreFedBy, AreApartFrom, IsOutput, IsOutputOf, AreOutputs}
+use Rattle.script_laws.specs.Outputs.{KeepsOthers, OnFiles, AreFedBy, Reads, AreRead, AreFed, AreThere, AreApartFrom, IsOutput, IsOutputOf, AreOutputs}
 
 pub or_left : (a b : Bool) → (a || b) ≡ false → a ≡ false
 or_left true b e = e
@@ -123,6 +125,88 @@ fed_rest a b sources before outputs line lines apart kept fed name here = goes a
     goes None y kept told = absurd told
     goes (Some f) None kept told = absurd kept
     goes (Some f) (Some k) kept told = told ∙ ap (λ (o : Option (List ℕ)). unwrap_or o []) (sym (kept name other))
+
+-- ---- what was read
+
+-- the names that the later lines read have behind the first line what they had before it
+later_kept : (x y : Files) (before outputs : List (List ℕ)) (line : Line) (lines : List Line) → AreApartFrom before (outputs ++ outputs_of line) lines → KeepsOthers (line ∷ []) x y
+    → (name : List ℕ) → Contains (flat_map sources_of lines) name → y name ≡ x name
+later_kept x y before outputs line lines apart kept name here =
+    kept name (any_nil (bytes_eq name) (outputs_of line) (any_right (bytes_eq name) outputs (outputs_of line) (later_source before (outputs ++ outputs_of line) lines name apart here)))
+
+pub all_both : {X : Type 0} (P : X → Type 0) (xs ys : List X) → AllByRecursion P xs → AllByRecursion P ys → AllByRecursion P (xs ++ ys)
+all_both P [] ys h k = k
+all_both P (x ∷ xs) ys h k = (h.0, all_both P xs ys h.1 k)
+
+pub all_front : {X : Type 0} (P : X → Type 0) (xs ys : List X) → AllByRecursion P (xs ++ ys) → AllByRecursion P xs
+all_front P [] ys h = tt
+all_front P (x ∷ xs) ys h = (h.0, all_front P xs ys h.1)
+
+pub all_back : {X : Type 0} (P : X → Type 0) (xs ys : List X) → AllByRecursion P (xs ++ ys) → AllByRecursion P ys
+all_back P [] ys h = h
+all_back P (x ∷ xs) ys h = all_back P xs ys h.1
+
+abbrev IsUnder : Files → List ℕ × List ℕ → Type 0
+IsUnder f r = r.1 ≡ unwrap_or (f r.0) []
+
+-- bytes that are told of some files are told of others that have the same under these names
+told_of_same : (x y : Files) (reads : Reads) → ((name : List ℕ) → Contains (map (λ r. r.0) reads) name → y name ≡ x name) → AllByRecursion (IsUnder y) reads → AllByRecursion (IsUnder x) reads
+told_of_same x y [] same told = tt
+told_of_same x y (r ∷ rs) same told = (
+  told.0 ∙ ap (λ (o : Option (List ℕ)). unwrap_or o []) (same r.0 (Contains-append_left (r.0 ∷ []) (map (λ (q : List ℕ × List ℕ). q.0) rs) r.0 (Contains-push [] r.0))),
+  told_of_same x y rs (λ name here. same name (Contains-append_right (r.0 ∷ []) (map (λ (q : List ℕ × List ℕ). q.0) rs) name here)) told.1,
+)
+
+-- what a line read, and what the lines behind it
+pub read_then : (a b : Option Files) (before outputs : List (List ℕ)) (line : Line) (lines : List Line) (one more : Reads) → AreApartFrom before (outputs ++ outputs_of line) lines → OnFiles a b (KeepsOthers (line ∷ []))
+    → AreRead a (line ∷ []) one → AreRead b lines more → AreRead a (line ∷ lines) (one ++ more)
+read_then a b before outputs line lines one more apart kept first rest = record {
+  names = map-append (λ (r : List ℕ × List ℕ). r.0) one more ∙ ap (λ (xs : List (List ℕ)). xs ++ map (λ (r : List ℕ × List ℕ). r.0) more) (first.names ∙ append-nil (sources_of line)) ∙ ap (λ (xs : List (List ℕ)). sources_of line ++ xs) rest.names;
+  told = by a b kept first.told rest.told;
+}
+  where
+    by : (x y : Option Files) → OnFiles x y (KeepsOthers (line ∷ [])) → IfSome x (λ f. AllByRecursion (IsUnder f) one) → IfSome y (λ f. AllByRecursion (IsUnder f) more) → IfSome x (λ f. AllByRecursion (IsUnder f) (one ++ more))
+    by None y on h k = tt
+    by (Some f) None on h k = absurd on
+    by (Some f) (Some g) on h k = all_both (IsUnder f) one more h
+        (told_of_same f g more (λ name here. later_kept f g before outputs line lines apart on name (subst (λ (xs : List (List ℕ)). Contains xs name) rest.names here)) k)
+
+there_of_same : (a b : Option Files) (names : List (List ℕ)) → ((name : List ℕ) → Contains names name → IsThere b name → IsThere a name) → AllByRecursion (IsThere b) names → AllByRecursion (IsThere a) names
+there_of_same a b [] same there = tt
+there_of_same a b (n ∷ ns) same there = (
+  same n (Contains-append_left (n ∷ []) ns n (Contains-push [] n)) there.0,
+  there_of_same a b ns (λ name here. same name (Contains-append_right (n ∷ []) ns name here)) there.1,
+)
+
+all_there : (a b : Option Files) (lines : List Line) (answers : List Answer) → ((name : List ℕ) → Contains (flat_map sources_of lines) name → IsThere b name → IsThere a name) → AreThere b lines answers → AreThere a lines answers
+all_there a b [] answers same there = tt
+all_there a b (line ∷ lines) [] same there = tt
+all_there a b (line ∷ lines) (answer ∷ answers) same there = (
+  λ done. there_of_same a b (sources_of line) (λ name here. same name (Contains-append_left (sources_of line) (flat_map sources_of lines) name here)) (there.0 done),
+  all_there a b lines answers (λ name here. same name (Contains-append_right (sources_of line) (flat_map sources_of lines) name here)) there.1,
+)
+
+-- the sources that are there behind a line were there before it
+pub there_then : (a b : Option Files) (before outputs : List (List ℕ)) (line : Line) (lines : List Line) (answers : List Answer) → AreApartFrom before (outputs ++ outputs_of line) lines → OnFiles a b (KeepsOthers (line ∷ []))
+    → AreThere b lines answers → AreThere a lines answers
+there_then a b before outputs line lines answers apart kept there = all_there a b lines answers (λ name here. by a b kept name here) there
+  where
+    by : (x y : Option Files) → OnFiles x y (KeepsOthers (line ∷ [])) → (name : List ℕ) → Contains (flat_map sources_of lines) name → IsThere y name → IsThere x name
+    by None y on name here h = tt
+    by (Some f) None on name here h = absurd on
+    by (Some f) (Some g) on name here h = subst (λ (o : Option (List ℕ)). IsSome o) (later_kept f g before outputs line lines apart on name here) h
+
+-- sources that are those under the names have the bytes that were read
+pub fed_told : (files : Option Files) (sources : Sources) (lines : List Line) (reads : Reads) → AreRead files lines reads → AreFedBy files sources lines → AreFed sources reads
+fed_told files sources lines reads read fed = by files reads (λ name here. fed name (subst (λ (xs : List (List ℕ)). Contains xs name) read.names here)) read.told
+  where
+    by : (o : Option Files) (rs : Reads) → ((name : List ℕ) → Contains (map (λ (q : List ℕ × List ℕ). q.0) rs) name → IsSomeAnd o (λ f. sources name ≡ unwrap_or (f name) [])) → IfSome o (λ f. AllByRecursion (IsUnder f) rs) → AreFed sources rs
+    by o [] h told = tt
+    by None (r ∷ rs) h told = absurd (h r.0 (Contains-append_left (r.0 ∷ []) (map (λ (q : List ℕ × List ℕ). q.0) rs) r.0 (Contains-push [] r.0)))
+    by (Some f) (r ∷ rs) h told = (
+      h r.0 (Contains-append_left (r.0 ∷ []) (map (λ (q : List ℕ × List ℕ). q.0) rs) r.0 (Contains-push [] r.0)) ∙ sym told.0,
+      by (Some f) rs (λ name here. h name (Contains-append_right (r.0 ∷ []) (map (λ (q : List ℕ × List ℕ). q.0) rs) name here)) told.1,
+    )
 
 -- ---- outputs
 

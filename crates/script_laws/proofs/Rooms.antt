@@ -23,7 +23,7 @@ use Rattle.script_laws.specs.Causes.{CausesRise, counts_of_sink}
 use Rattle.script_laws.specs.Outputs.{AreApartFrom, AreFedBy, KeepsOthers, OnFiles}
 use Rattle.script_laws.specs.Steps.{Chain, Moment, StepsLine, write_numbered}
 use Rattle.script_laws.specs.Room.{NeedRoom, NeedsRoom, StepsWithin}
-use Rattle.script_laws.proofs.Names.{fed_first, fed_rest}
+use Rattle.script_laws.proofs.Names.{fed_first, fed_rest, fed_told}
 
 -- a restore that was done needs no room
 pub done_needs : (room : Option ℕ) (S : State) (s v : ℕ) (name : List ℕ) (cache : ℕ) (a : Answer) → is_refused a ≡ false → NeedsRoom room S (Restore s v name cache) a
@@ -83,7 +83,7 @@ module _ {K : Type 0} (shelf : K → ShelfTold) (keeps : K → State → Option 
   rooms_from sources S other old new before outputs [] answers keep fed told apart chain = tt
   rooms_from sources S other old new before outputs (line ∷ lines) [] keep fed told apart chain = tt
   rooms_from sources S other old new before outputs (line ∷ lines) (answer ∷ answers) keep fed told apart (mid, step, chain) =
-      let means = step.step.means S other sources keep (fed_first old.places.files sources line lines fed) in (
+      let means = step.step.means S other sources keep (fed_told old.places.files sources (line ∷ []) step.step.reads step.step.read (fed_first old.places.files sources line lines fed)) in (
         step.needs S other keep told,
         rooms_from sources (after sources S line answer) means.0 mid new (before ++ sources_of line) (outputs ++ outputs_of line) lines answers means.1
             (fed_rest old.places.files mid.places.files sources (before ++ sources_of line) outputs line lines apart.1 step.step.others fed)

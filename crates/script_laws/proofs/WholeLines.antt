@@ -1,6 +1,7 @@
 -- Whole lines, from what the keeper's and the places' calls say.
 use Rattle.std.proofs.Common.{◌≡◌, ◌⊎◌, inl, inr, ⊎_elim, ◌≤◌, ℕ, true, false, IsTrue, List, [], ◌∷◌, Option, Some, None, refl, sym, ◌∙◌, ap, subst, arith}
-use Rattle.std.specs.Prelude.{IfSome, Result, Ok, Err}
+use Rattle.std.specs.Prelude.{IfSome, IsSome, unwrap_or, Result, Ok, Err}
+use Rattle.std.specs.List.{AllByRecursion}
 use Rattle.vault_types.specs.declared.Limits.{Limits}
 use Rattle.vault_types.specs.declared.JobConfig.{JobConfig}
 use Rattle.vault_types.specs.declared.Name.{Name}
@@ -13,15 +14,50 @@ use Rattle.vault_types.specs.State.{State, is_full, is_kept, floor_of, latest_of
 use Rattle.vault_types.specs.Bytes.{bytes_of}
 use Rattle.vault_traits.specs.Counts.{added, Rose}
 use Rattle.vault_traits.specs.Told.{ShelfTold, PlacesTold, SourceTold, SinkTold, Files}
-use Rattle.vault_traits.specs.Files.{AreKept, ChangesOnly, IsEmptied, MayBeEmptied, IsWhatWasTaken}
+use Rattle.vault_traits.specs.Files.{AreKept, ChangesOnly, IsEmptied, IsReaderOf, IsThere, MayBeEmptied, IsWhatWasTaken}
 use Rattle.script_laws.specs.Causes.{CausesRise, counts_of_source, counts_of_sink}
 use Rattle.vault_types.specs.Events.{Change}
-use Rattle.script_laws.specs.Steps.{answer_of, StepsLine, read_numbered, write_numbered}
+use Rattle.vault_types.specs.Script.{Sources, after}
+use Rattle.script_laws.specs.Outputs.{Reads}
+use Rattle.script_laws.specs.Steps.{answer_of, StepsLine, StepsOn, read_numbered, write_numbered}
 use Rattle.script_laws.specs.Calls.{AroundSink, AroundSource, BacksUpLine, DeletesLine, RestoresLine, backup_answer, restore_answer}
-use Rattle.script_laws.proofs.LineLemmas.{unmoved, full_means, not_full_means, not_kept_means, place_means, memory_means, as_backup, as_restore, read_steps, read_kind, write_steps, write_kind, causes_source, causes_read, causes_sink, causes_write, done_no_read, done_no_write, kind_backup, kind_restore, fed_reader, kept_files, kept_twice, same_files, no_output, changes_files, changes_twice, output_of_change, same_output, written_output, numbered_output, no_gets, as_delete, causes_alone, full_is, not_kept_is}
+use Rattle.script_laws.proofs.LineLemmas.{unmoved, full_means, not_full_means, not_kept_means, place_means, memory_means, as_backup, as_restore, read_steps, read_kind, write_steps, write_kind, causes_source, causes_read, causes_sink, causes_write, done_no_read, done_no_write, kind_backup, kind_restore, kept_files, kept_twice, same_files, no_output, changes_files, changes_twice, output_of_change, same_output, written_output, numbered_output, no_gets, as_delete, causes_alone, full_is, not_kept_is}
 
 own_set : (s : ℕ) → Rattle.std.specs.Prelude.nat_eq s s ≡ true
 own_set s = search Rattle.std.proofs.Common.rules
+
+-- the bytes under a name
+abbrev bytes_in : Option Files → List ℕ → List ℕ
+bytes_in None name = []
+bytes_in (Some f) name = unwrap_or (f name) []
+
+-- the bytes that were read are those under their names
+abbrev AreToldIn : Option Files → Reads → Type 0
+AreToldIn o reads = IfSome o (λ f. AllByRecursion (λ r. r.1 ≡ unwrap_or (f r.0) []) reads)
+
+told_in : (o : Option Files) (name : List ℕ) → AreToldIn o ((name, bytes_in o name) ∷ [])
+told_in None name = tt
+told_in (Some f) name = (refl, tt)
+
+none_told : (o : Option Files) → AreToldIn o []
+none_told None = tt
+none_told (Some f) = tt
+
+-- a reader that was opened: its name is there, and what it has left are the bytes under it
+source_there : (o : Option Files) (name text : List ℕ) (r : SourceTold) → text ≡ name → IsReaderOf o text r → IsThere o name
+source_there None name text r same reader = tt
+source_there (Some f) name text r same reader = subst (λ (n : List ℕ). IsSome (f n)) same reader.left.0
+
+told_reader : (o : Option Files) (name text : List ℕ) (r : SourceTold) (read : List ℕ) → text ≡ name → IsReaderOf o text r → AreToldIn o ((name, unwrap_or r.left read) ∷ [])
+told_reader None name text r read same reader = tt
+told_reader (Some f) name text r read same reader = (
+  ap (λ (o : Option (List ℕ)). unwrap_or o read) reader.left.1 ∙ some (f text) reader.left.0 ∙ ap (λ (n : List ℕ). unwrap_or (f n) []) same,
+  tt,
+)
+  where
+    some : (o : Option (List ℕ)) → IsSome o → unwrap_or o read ≡ unwrap_or o []
+    some None h = cc
+    some (Some x) h = refl
 
 module _ {K : Type 0} (shelf : K → ShelfTold) (keeps : K → State → Option Change → Type 0) (known : K → Name → Type 0) (limits : Limits) (k k' : K) (p m q : PlacesTold) where
   pub full_line : (s : ℕ) (name : List ℕ) (config : JobConfig) (latest next : ℕ) → ((S : State) (other : Option Change) → keeps k S other → true ≡ is_full S s limits)
@@ -31,8 +67,11 @@ module _ {K : Type 0} (shelf : K → ShelfTold) (keeps : K → State → Option 
     kind = own_set s;
     causes = record { store = omega arith; place = omega arith; read = omega arith; write = omega arith };
     others = kept_files (Backup s name config) _ _ (same_files p.files);
+    reads = (name, bytes_in p.files name) ∷ [];
+    read = record { names = refl; told = told_in p.files name };
+    there = λ done. cc;
     means = λ S other sources keep fed. (other, keep, unmoved limits sources S other (Backup s name config) (fault.Full s latest next) (known k) (shelf k) (full_means limits sources S s name config latest next (full S other keep) (l S other keep) (n S other keep)) (inr (inl (fault.Full s latest next, full_is limits S s name config latest next (full S other keep) (l S other keep) (n S other keep), refl))) refl);
-    output = λ S other sources keep fed. no_output _ _ (same_files p.files);
+    output = λ S other keep. no_output _ _ (same_files p.files);
   }
 
   -- a source that could not be opened
@@ -43,8 +82,11 @@ module _ {K : Type 0} (shelf : K → ShelfTold) (keeps : K → State → Option 
     kind = refl;
     causes = record { store = omega arith; place = (omega (arith, is, rose), omega (arith, is)); read = omega (arith, reads); write = omega (arith, writes) };
     others = kept_files (Backup s name config) _ _ files;
+    reads = (name, bytes_in p.files name) ∷ [];
+    read = record { names = refl; told = told_in p.files name };
+    there = λ done. cc;
     means = λ S other sources keep fed. (other, keep, unmoved limits sources S other (Backup s name config) (fault.PlaceFault n) (known k) (shelf k) (not_full_means limits sources S s name config (fault.PlaceFault n) (full S other keep) refl (λ j e. another j e) refl) (inr (inr (inr refl))) refl);
-    output = λ S other sources keep fed. no_output _ _ files;
+    output = λ S other keep. no_output _ _ files;
   }
     where
       another : (j : ℕ) → Refused (fault.PlaceFault n) ≡ Refused (fault.TooMany j) → ⊥
@@ -57,12 +99,22 @@ module _ {K : Type 0} (shelf : K → ShelfTold) (keeps : K → State → Option 
     kind = refl;
     causes = record { store = omega arith; place = later; read = omega (arith, reads); write = omega (arith, writes) };
     others = kept_files (Backup s name config) _ _ files;
+    reads = (name, bytes_in p.files name) ∷ [];
+    read = record { names = refl; told = told_in p.files name };
+    there = λ done. cc;
     means = λ S other sources keep fed. (other, keep, unmoved limits sources S other (Backup s name config) fault.Memory (known k) (shelf k) (not_full_means limits sources S s name config fault.Memory (full S other keep) refl (λ j e. another j e) refl) (inr (inr (inl refl))) refl);
-    output = λ S other sources keep fed. no_output _ _ files;
+    output = λ S other keep. no_output _ _ files;
   }
     where
       another : (j : ℕ) → Refused fault.Memory ≡ Refused (fault.TooMany j) → ⊥
       another j e = cc
+
+  -- a call over a source whose bytes the sources have
+  given_from : (sources : Sources) (S : State) (other : Option Change) (s : ℕ) (name : List ℕ) (config : JobConfig) (a : Answer) (read : List ℕ) (r : SourceTold) → sources name ≡ unwrap_or r.left read
+      → (next : Option Change) × keeps k' (after (λ _. unwrap_or r.left read) S (Backup s [] config) a) next × StepsOn limits (λ _. unwrap_or r.left read) S other (Backup s [] config) a next (known k) (known k') (shelf k) (shelf k')
+      → (next : Option Change) × keeps k' (after (λ _. sources name) S (Backup s [] config) a) next × StepsOn limits (λ _. sources name) S other (Backup s [] config) a next (known k) (known k') (shelf k) (shelf k')
+  given_from sources S other s name config a read r same steps =
+      subst (λ (x : List ℕ). (next : Option Change) × keeps k' (after (λ _. x) S (Backup s [] config) a) next × StepsOn limits (λ _. x) S other (Backup s [] config) a next (known k) (known k') (shelf k) (shelf k')) (sym same) steps
 
   fresh_source : (r r' : SourceTold) (a : Answer) → r.faults ≡ 0 → CausesRise (counts_of_source (shelf k) r) (counts_of_source (shelf k') r') (a ∷ [])
       → CausesRise (record { store = (shelf k).faults; place = 0; read = 0; write = 0 }) (counts_of_source (shelf k') r') (a ∷ [])
@@ -79,10 +131,13 @@ module _ {K : Type 0} (shelf : K → ShelfTold) (keeps : K → State → Option 
     causes = causes_source a _ _ p.faults q.faults p.read_faults q.read_faults p.write_faults q.write_faults r'.faults (fresh_source r r' a around.reader.fresh call.causes)
         (omega (arith, around.later, around.same)) (omega (arith, around.writes, around.same_writes)) (around.added_reads ∙ ap (λ (n : ℕ). added n r'.faults) around.reads) (done_no_read a call.done);
     others = kept_files (Backup s name config) _ _ (kept_twice p.files m.files q.files around.opened_files around.closed_files);
+    reads = (name, unwrap_or r.left call.read) ∷ [];
+    read = record { names = refl; told = told_reader p.files name text r call.read same around.reader };
+    there = λ done. (source_there p.files name text r same around.reader, tt);
     means = λ S other sources keep fed.
-        let st = call.steps S other (sources name) keep (fed_reader p.files sources s name text config r same around.reader fed) in
+        let st = given_from sources S other s name config a call.read r fed.0 (call.steps S other keep) in
         (st.0, st.1, as_backup limits sources S other st.0 s name config a (known k) (known k') (shelf k) (shelf k') st.2);
-    output = λ S other sources keep fed. no_output _ _ (kept_twice p.files m.files q.files around.opened_files around.closed_files);
+    output = λ S other keep. no_output _ _ (kept_twice p.files m.files q.files around.opened_files around.closed_files);
   }
 
   pub backup_line_err : (s : ℕ) (name text : List ℕ) (config : JobConfig) (f g : Fault) (r r' : SourceTold) → g ≡ read_numbered q.read_faults f → text ≡ name → AroundSource p m q text r r' → BacksUpLine (keeps k) (keeps k') (known k) (known k') limits s config (shelf k) (shelf k') r r' (Err f)
@@ -92,10 +147,13 @@ module _ {K : Type 0} (shelf : K → ShelfTold) (keeps : K → State → Option 
     causes = causes_read f _ _ p.faults q.faults p.read_faults q.read_faults p.write_faults q.write_faults r'.faults (fresh_source r r' (Refused f) around.reader.fresh call.causes)
         (omega (arith, around.later, around.same)) (omega (arith, around.writes, around.same_writes)) (around.added_reads ∙ ap (λ (n : ℕ). added n r'.faults) around.reads);
     others = kept_files (Backup s name config) _ _ (kept_twice p.files m.files q.files around.opened_files around.closed_files);
+    reads = (name, unwrap_or r.left call.read) ∷ [];
+    read = record { names = refl; told = told_reader p.files name text r call.read same around.reader };
+    there = λ done. (source_there p.files name text r same around.reader, tt);
     means = λ S other sources keep fed.
-        let st = call.steps S other (sources name) keep (fed_reader p.files sources s name text config r same around.reader fed) in
+        let st = given_from sources S other s name config (Refused f) call.read r fed.0 (call.steps S other keep) in
         (st.0, st.1, read_steps limits sources S other st.0 s name config f q.read_faults (known k) (known k') (shelf k) (shelf k') (as_backup limits sources S other st.0 s name config (Refused f) (known k) (known k') (shelf k) (shelf k') st.2));
-    output = λ S other sources keep fed. no_output _ _ (kept_twice p.files m.files q.files around.opened_files around.closed_files);
+    output = λ S other keep. no_output _ _ (kept_twice p.files m.files q.files around.opened_files around.closed_files);
   })
 
   pub not_kept_line : (s v : ℕ) (name : List ℕ) (cache floor latest : ℕ) → ((S : State) (other : Option Change) → keeps k S other → false ≡ is_kept S s v)
@@ -105,8 +163,11 @@ module _ {K : Type 0} (shelf : K → ShelfTold) (keeps : K → State → Option 
     kind = both (own_set s) (own_set v);
     causes = record { store = omega arith; place = omega arith; read = omega arith; write = omega arith };
     others = kept_files (Restore s v name cache) _ _ (same_files p.files);
+    reads = [];
+    read = record { names = refl; told = none_told p.files };
+    there = λ done. tt;
     means = λ S other sources keep fed. (other, keep, unmoved limits sources S other (Restore s v name cache) (fault.NotKept s v floor latest) (known k) (shelf k) (not_kept_means limits sources S s v name cache floor latest (kept S other keep) (f S other keep) (l S other keep)) (inr (inl (fault.NotKept s v floor latest, not_kept_is limits S s v name cache floor latest (kept S other keep) (f S other keep) (l S other keep), refl))) refl);
-    output = λ S other sources keep fed. same_output S s v name cache (floor, latest) p.files;
+    output = λ S other keep. same_output S s v name cache (floor, latest) p.files;
   }
     where
       both : {a b : Rattle.std.proofs.Common.Bool} → a ≡ true → b ≡ true → Rattle.std.proofs.Common.◌&&◌ a b ≡ true
@@ -119,8 +180,11 @@ module _ {K : Type 0} (shelf : K → ShelfTold) (keeps : K → State → Option 
     kind = refl;
     causes = record { store = omega arith; place = (omega (arith, is, rose), omega (arith, is)); read = omega (arith, reads); write = omega (arith, writes) };
     others = changes_files s v name name cache p.files q.files MayBeEmptied refl files;
+    reads = [];
+    read = record { names = refl; told = none_told p.files };
+    there = λ done. tt;
     means = λ S other sources keep fed. (other, keep, unmoved limits sources S other (Restore s v name cache) (fault.PlaceFault n) (known k) (shelf k) (place_means limits sources S s v name cache n (kept S other keep)) (inr (inr (inr refl))) refl);
-    output = λ S other sources keep fed. output_of_change S s v name name cache (Refused (fault.PlaceFault n)) p.files q.files MayBeEmptied refl files (λ f e x y h. h);
+    output = λ S other keep. output_of_change S s v name name cache (Refused (fault.PlaceFault n)) p.files q.files MayBeEmptied refl files (λ f e x y h. h);
   }
 
   pub no_room_line : (s v : ℕ) (name : List ℕ) (cache : ℕ) → ((S : State) (other : Option Change) → keeps k S other → true ≡ is_kept S s v)
@@ -130,8 +194,11 @@ module _ {K : Type 0} (shelf : K → ShelfTold) (keeps : K → State → Option 
     kind = refl;
     causes = record { store = omega arith; place = later; read = omega (arith, reads); write = omega (arith, writes) };
     others = changes_files s v name name cache p.files q.files MayBeEmptied refl files;
+    reads = [];
+    read = record { names = refl; told = none_told p.files };
+    there = λ done. tt;
     means = λ S other sources keep fed. (other, keep, unmoved limits sources S other (Restore s v name cache) fault.Memory (known k) (shelf k) (memory_means limits sources S s v name cache (kept S other keep)) (inr (inr (inl refl))) (no_gets S s v cache));
-    output = λ S other sources keep fed. output_of_change S s v name name cache (Refused fault.Memory) p.files q.files MayBeEmptied refl files
+    output = λ S other keep. output_of_change S s v name name cache (Refused fault.Memory) p.files q.files MayBeEmptied refl files
         (λ f e x y h. ⊎_elim (λ same. inl same) (λ empty. inr ([], (bytes_of S s v, refl), empty)) h);
   }
 
@@ -142,8 +209,11 @@ module _ {K : Type 0} (shelf : K → ShelfTold) (keeps : K → State → Option 
     causes = causes_sink a _ _ p.faults q.faults p.read_faults q.read_faults p.write_faults q.write_faults w'.faults (fresh_sink w w' a around.writer.fresh call.causes)
         (omega (arith, around.later, around.same)) (omega (arith, around.reads, around.same_reads)) (around.added_writes ∙ ap (λ (n : ℕ). added n w'.faults) around.writes) (done_no_write a call.done);
     others = changes_files s v name name cache p.files q.files (IsWhatWasTaken w'.taken) refl both;
+    reads = [];
+    read = record { names = refl; told = none_told p.files };
+    there = λ done. tt;
     means = λ S other sources keep fed. let st = call.steps S other limits keep in (st.0, st.1, as_restore limits sources S other st.0 s v name cache a (known k) (known k') (shelf k) (shelf k') st.2);
-    output = λ S other sources keep fed. let st = call.steps S other limits keep in
+    output = λ S other keep. let st = call.steps S other limits keep in
         output_of_change S s v name name cache a p.files q.files (IsWhatWasTaken w'.taken) refl both
         (λ f e x y h. written_output limits S s v cache a w.taken w'.taken x y _ _ _ _ (kept S other keep) (call.kind limits) call.causes st.2.means.exact (call.written S other keep)
         (subst (λ (t : Option Files). IfSome t (λ u. w.taken ≡ Some [])) e around.writer.taken) h);
@@ -159,9 +229,12 @@ module _ {K : Type 0} (shelf : K → ShelfTold) (keeps : K → State → Option 
     causes = causes_write f _ _ p.faults q.faults p.read_faults q.read_faults p.write_faults q.write_faults w'.faults (fresh_sink w w' (Refused f) around.writer.fresh call.causes)
         (omega (arith, around.later, around.same)) (omega (arith, around.reads, around.same_reads)) (around.added_writes ∙ ap (λ (n : ℕ). added n w'.faults) around.writes);
     others = changes_files s v name name cache p.files q.files (IsWhatWasTaken w'.taken) refl both;
+    reads = [];
+    read = record { names = refl; told = none_told p.files };
+    there = λ done. tt;
     means = λ S other sources keep fed. let st = call.steps S other limits keep in
         (st.0, st.1, write_steps limits sources S other st.0 s v name cache f q.write_faults (known k) (known k') (shelf k) (shelf k') (as_restore limits sources S other st.0 s v name cache (Refused f) (known k) (known k') (shelf k) (shelf k') st.2));
-    output = λ S other sources keep fed. let st = call.steps S other limits keep in
+    output = λ S other keep. let st = call.steps S other limits keep in
         output_of_change S s v name name cache (Refused (write_numbered q.write_faults f)) p.files q.files (IsWhatWasTaken w'.taken) refl both
         (λ u e x y h. numbered_output (bytes_of S s v) f q.write_faults x y (written_output limits S s v cache (Refused f) w.taken w'.taken x y _ _ _ _ (kept S other keep) (call.kind limits) call.causes st.2.means.exact (call.written S other keep)
         (subst (λ (t : Option Files). IfSome t (λ u. w.taken ≡ Some [])) e around.writer.taken) h));
@@ -177,8 +250,11 @@ module _ {K : Type 0} (shelf : K → ShelfTold) (keeps : K → State → Option 
     kind = call.kind limits;
     causes = causes_alone _ _ _ _ _ _ call.causes;
     others = kept_files (Delete s n) _ _ (same_files p.files);
+    reads = [];
+    read = record { names = refl; told = none_told p.files };
+    there = λ done. tt;
     means = λ S other sources keep fed. let st = call.steps S other limits keep in (st.0, st.1, as_delete _ _ _ _ _ _ _ _ _ _ _ _ st.2);
-    output = λ S other sources keep fed. no_output _ _ (same_files p.files);
+    output = λ S other keep. no_output _ _ (same_files p.files);
   })
 
   -- a backup of a source, and a restore to a sink

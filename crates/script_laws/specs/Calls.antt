@@ -1,7 +1,7 @@
 -- What the calls of a keeper that run one line ensure: a backup of what a source has left, a restore to a sink, and a
 -- deletion. What the keeper keeps is given: a state, and the change that a failed write may have made; and the names that
 -- it knows as strays.
-use Rattle.std.specs.Prelude.{◌≡◌, ◌≤◌, ◌<◌, ℕ, Bool, true, false, not, IsTrue, List, [], ◌∷◌, length, Option, Some, IfSome, IfOk, IfErr, OnOk, Result, Ok, Err}
+use Rattle.std.specs.Prelude.{◌≡◌, ◌≤◌, ◌<◌, ℕ, Bool, true, false, not, IsTrue, List, [], ◌∷◌, length, Option, Some, IfSome, IfOk, IfErr, OnOk, Result, Ok, Err, ◌⊎◌, ◌+◌, ◌*◌, unwrap_or}
 use Rattle.vault_types.specs.declared.Limits.{Limits}
 use Rattle.vault_types.specs.declared.JobConfig.{JobConfig}
 use Rattle.vault_types.specs.declared.Name.{Name}
@@ -12,13 +12,14 @@ use Rattle.vault_types.specs.declared.Fault.TheVariants as fault
 use Rattle.vault_types.specs.declared.Answer.{Answer}
 use Rattle.vault_types.specs.declared.Answer.TheVariants.{Refused}
 use Rattle.vault_types.specs.declared.Line.TheVariants.{Backup, Restore, Delete}
+use Rattle.vault_types.specs.Cuts.{cuts, settled}
 use Rattle.vault_types.specs.State.{State}
 use Rattle.vault_types.specs.Bytes.{bytes_of}
 use Rattle.vault_types.specs.Events.{Change}
 use Rattle.vault_types.specs.Script.{after, is_refused}
 use Rattle.vault_traits.specs.Counts.{added}
 use Rattle.vault_traits.specs.Files.{AreKept, ChangesOnly, IsEmptied, IsNewWriter, IsReaderOf, IsWhatWasTaken}
-use Rattle.vault_traits.specs.Told.{ShelfTold, SourceTold, SinkTold, PlacesTold, Takes}
+use Rattle.vault_traits.specs.Told.{ShelfTold, SourceTold, SinkTold, PlacesTold, Gives, Takes}
 use Rattle.script_laws.specs.Causes.{CausesRise, fits, counts_of_source, counts_of_sink, counts_of_shelf}
 use Rattle.script_laws.specs.Outputs.{IsFrontOf}
 use Rattle.script_laws.specs.Steps.{answer_of, read_numbered, write_numbered, StepsOn}
@@ -27,14 +28,31 @@ use Rattle.script_laws.specs.Steps.{answer_of, read_numbered, write_numbered, St
 abbrev pub Keeping : Type 1
 Keeping = State → Option Change → Type 0
 
+-- the source gave at most so many bytes
+abbrev pub GivesAtMost : ℕ → SourceTold → SourceTold → Type 0
+GivesAtMost most from to = (read : List ℕ) × Gives from.left to.left read × (length read ≤ most)
+
+-- the bytes that were read are too many: so many chunks of them are settled, or there are so many as nothing is left, or
+-- there are more bytes than the limit's chunks can have
+abbrev pub IsTooMany : Limits → JobConfig → List ℕ → SourceTold → Type 0
+IsTooMany limits config read to =
+    (limits.chunks < length (settled read config.cutting))
+    ⊎ ((IfSome to.left (λ rest. rest ≡ []) × (limits.chunks < length (cuts read config.cutting)))
+    ⊎ (limits.chunks * 65536 < length read))
+
 -- a line with the name [] stands for the call alone
 pub record BacksUpLine (before behind : Keeping) (Known Behind : Name → Type 0) (limits : Limits) (set : ℕ) (config : JobConfig) (old new : ShelfTold) (from to : SourceTold) (result : Result Answer Fault) : Type 0 where
+  -- the bytes that the source gave; where it tells nothing, it is taken to have no others
+  pub read : List ℕ
+  pub given : Gives from.left to.left read
+  pub within : length read ≤ limits.chunks * 65536 + 65536
+  pub too_many : (n : ℕ) → result ≡ Err (fault.TooMany n) → IsTooMany limits config read to
   pub done : IfOk result (λ a. is_refused a ≡ false)
   pub kind : IsTrue (fits limits (Backup set [] config) (answer_of result))
   pub causes : CausesRise (counts_of_source old from) (counts_of_source new to) (answer_of result ∷ [])
-  pub steps : (S : State) (other : Option Change) (x : List ℕ) → before S other → from.left ≡ Some x
-      → (next : Option Change) × behind (after (λ _. x) S (Backup set [] config) (answer_of result)) next
-      × StepsOn limits (λ _. x) S other (Backup set [] config) (answer_of result) next Known Behind old new
+  pub steps : (S : State) (other : Option Change) → before S other
+      → (next : Option Change) × behind (after (λ _. unwrap_or from.left read) S (Backup set [] config) (answer_of result)) next
+      × StepsOn limits (λ _. unwrap_or from.left read) S other (Backup set [] config) (answer_of result) next Known Behind old new
   pub to_the_end : OnOk result (IfSome to.left (λ rest. rest ≡ []))
 
 -- whether a restore writes all bytes of its version: one that is done does, and one that finds that they have another sum

@@ -1,5 +1,6 @@
 -- What the restores of a script write.
-use Rattle.std.specs.Prelude.{◌≡◌, ◌⊎◌, ℕ, false, IsTrue, List, [], ◌∷◌, ◌++◌, flat_map, unwrap_or, Contains, Option, Some, None, IsSomeAnd}
+use Rattle.std.specs.Prelude.{◌≡◌, ◌⊎◌, ℕ, false, IsTrue, List, [], ◌∷◌, ◌++◌, map, flat_map, unwrap_or, Contains, Option, Some, None, IsSomeAnd, IfSome}
+use Rattle.std.specs.List.{AllByRecursion}
 use Rattle.vault_types.specs.declared.Fault.TheVariants as fault
 use Rattle.vault_types.specs.declared.Kind.TheVariants as kind
 use Rattle.vault_types.specs.declared.Why.TheVariants as why
@@ -10,9 +11,9 @@ use Rattle.vault_types.specs.declared.Line.TheVariants.{Backup, Restore, Delete}
 use Rattle.vault_types.specs.State.{State}
 use Rattle.vault_types.specs.Bytes.{bytes_of}
 use Rattle.vault_types.specs.Words.{sources_of, outputs_of, may_follow, is_one_of}
-use Rattle.vault_types.specs.Script.{Sources, after}
+use Rattle.vault_types.specs.Script.{Sources, after, is_refused}
 use Rattle.vault_traits.specs.Told.{Files}
-use Rattle.vault_traits.specs.Files.{MayBeEmptied}
+use Rattle.vault_traits.specs.Files.{MayBeEmptied, IsThere}
 
 -- these bytes are the front of those
 abbrev pub IsFrontOf : List ℕ → List ℕ → Type 0
@@ -60,6 +61,26 @@ OnFiles (Some before) (Some now) Fact = Fact before now
 abbrev pub AreFedBy : Option Files → Sources → List Line → Type 0
 AreFedBy files sources lines =
     (name : List ℕ) → Contains (flat_map sources_of lines) name → IsSomeAnd files (λ f. sources name ≡ unwrap_or (f name) [])
+
+-- the bytes that backups read, each with the name that they have
+abbrev pub Reads : Type 0
+Reads = List (List ℕ × List ℕ)
+
+-- the lines' sources in order, each with the bytes under its name; with any bytes where that is not told
+pub record AreRead (files : Option Files) (lines : List Line) (reads : Reads) : Type 0 where
+  pub names : map (λ r. r.0) reads ≡ flat_map sources_of lines
+  pub told : IfSome files (λ f. AllByRecursion (λ r. r.1 ≡ unwrap_or (f r.0) []) reads)
+
+-- the sources have these bytes
+abbrev pub AreFed : Sources → Reads → Type 0
+AreFed sources reads = AllByRecursion (λ r. sources r.0 ≡ r.1) reads
+
+-- the source of each backup that is done is there
+abbrev pub AreThere : Option Files → List Line → List Answer → Type 0
+AreThere files [] answers = Unit {0}
+AreThere files (line ∷ lines) [] = Unit {0}
+AreThere files (line ∷ lines) (answer ∷ answers) =
+    (is_refused answer ≡ false → AllByRecursion (IsThere files) (sources_of line)) × AreThere files lines answers
 
 -- no output is named twice, and none is a source
 abbrev pub AreApartFrom : List (List ℕ) → List (List ℕ) → List Line → Type 0

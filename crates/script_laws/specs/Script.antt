@@ -13,7 +13,7 @@ use Rattle.vault_traits.specs.Told.{ShelfTold, PlacesTold}
 use Rattle.script_laws.specs.Causes.{AreFitting, CausesRise, HasCauses, counts_over}
 use Rattle.script_laws.specs.Table.{MeanLines}
 use Rattle.script_laws.specs.Leaves.{LeavesShelf, BearsLines, BearsOnceDone}
-use Rattle.script_laws.specs.Outputs.{AreOutputs, KeepsOthers, OnFiles, AreFedBy}
+use Rattle.script_laws.specs.Outputs.{AreOutputs, KeepsOthers, OnFiles, Reads, AreRead, AreFed, AreThere}
 use Rattle.script_laws.specs.Strays.{StraysAreKnown, StraysOf}
 use Rattle.script_laws.specs.Complete.{IsSafe, IsWell, IsComplete}
 use Rattle.script_laws.specs.Keeping.{HasBytesOf, KeepBytes}
@@ -33,14 +33,19 @@ pub record MeansScript (limits : Limits) (sources : Sources) (S : State) (lines 
   pub reached : (front rest : List Line) (given more : List Answer) (T : State) → lines ≡ front ++ rest → answers ≡ given ++ more → length front ≡ length given
       → IsSafe sources S lines → IsValid T → Reaches sources (state_after sources S front given) rest more T → IsSound T × KeepBytes sources S T front given
 
--- the lines ran: one answer for each, each refusal with its cause, where they ran in order in script order; and in each state that they may start from, with the
--- strays that are known then, where the sources are told, the answers, the shelf and the outputs are those that the lines mean, and complete where all is well
+-- the lines ran: one answer for each, each refusal with its cause, where they ran in order in script order; the source
+-- of each backup that is done is there; and in each state that they may start from, with the strays that are known then
+-- and the bytes that were read, which are those under the names where that is told, the answers, the shelf and the outputs
+-- are those that the lines mean, and complete where all is well
 pub record RunsLines (in_order : Bool) (From : State → Type 0) (Known : State → Name → Type 0) (limits : Limits) (lines : List Line) (answers : List Answer) (old new : ShelfTold) (before now : PlacesTold) : Type 0 where
   pub kinds : AreFitting limits lines answers
   pub causes : HasCauses (counts_over old before) (counts_over new now) lines answers
   pub ordered : IsTrue in_order → CausesRise (counts_over old before) (counts_over new now) answers
   pub others : OnFiles before.files now.files (KeepsOthers lines)
-  pub means : (S : State) (sources : Sources) → From S → AreFedBy before.files sources lines → MeansScript limits sources S lines answers (Known S) old new
-  pub outputs : (S : State) (sources : Sources) → From S → AreFedBy before.files sources lines → OnFiles before.files now.files (AreOutputs sources S lines answers)
-  pub complete : (S : State) (sources : Sources) → From S → AreFedBy before.files sources lines → IsWell limits sources S lines
+  pub reads : Reads
+  pub read : AreRead before.files lines reads
+  pub there : AreThere before.files lines answers
+  pub means : (S : State) (sources : Sources) → From S → AreFed sources reads → MeansScript limits sources S lines answers (Known S) old new
+  pub outputs : (S : State) (sources : Sources) → From S → AreFed sources reads → OnFiles before.files now.files (AreOutputs sources S lines answers)
+  pub complete : (S : State) (sources : Sources) → From S → AreFed sources reads → IsWell limits sources S lines
       → IsComplete limits sources S lines answers (counts_over old before) (counts_over new now)

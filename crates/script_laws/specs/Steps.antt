@@ -1,5 +1,6 @@
 -- One line of a run: what it takes the shelf and the keeper's state to.
 use Rattle.std.specs.Prelude.{◌≡◌, ◌⊎◌, ◌≤◌, ◌<◌, ◌-◌, ◌*◌, ◌^◌, ℕ, false, IsTrue, List, [], ◌∷◌, length, Contains, Option, None, IsSomeAnd, Result, Ok, Err}
+use Rattle.std.specs.List.{AllByRecursion}
 use Rattle.vault_types.specs.declared.Limits.{Limits}
 use Rattle.vault_types.specs.declared.Name.{Name}
 use Rattle.vault_types.specs.declared.Fault.{Fault}
@@ -8,17 +9,19 @@ use Rattle.vault_types.specs.declared.Answer.{Answer}
 use Rattle.vault_types.specs.declared.Answer.TheVariants.{Refused}
 use Rattle.vault_types.specs.declared.Line.{Line}
 use Rattle.vault_types.specs.State.{State}
+use Rattle.vault_types.specs.Words.{sources_of}
 use Rattle.vault_types.specs.Shelf.{Blobs, Stands}
 use Rattle.vault_types.specs.Events.{Change, IsNear}
 use Rattle.vault_types.specs.Script.{Sources, after, after_line, is_refused, is_store_fault, changes}
 use Rattle.vault_traits.specs.Counts.{counted_up}
 use Rattle.vault_traits.specs.Crash.{History, LeavesNowIfTold, LeavesOnlyIfTold}
+use Rattle.vault_traits.specs.Files.{IsThere}
 use Rattle.vault_traits.specs.Told.{ShelfTold, PlacesTold}
 use Rattle.script_laws.specs.Causes.{CausesRise, fits, counts_over}
 use Rattle.script_laws.specs.Table.{MeansLine}
 use Rattle.script_laws.specs.Leaves.{Gets, is_change}
 use Rattle.script_laws.specs.Complete.{IsWell, IsWellAnswered}
-use Rattle.script_laws.specs.Outputs.{OnFiles, KeepsOthers, IsOutputOf, AreFedBy}
+use Rattle.script_laws.specs.Outputs.{OnFiles, KeepsOthers, IsOutputOf, Reads, AreRead, AreFed}
 use Rattle.script_laws.specs.Strays.{MayStayBehind}
 
 abbrev pub answer_of : Result Answer Fault → Answer
@@ -77,15 +80,18 @@ pub record Moment (K : Type 0) : Type 0 where
   pub keeper : K
   pub places : PlacesTold
 
--- a line: one answer of its kind, each refusal with its cause; and in each state that the keeper keeps, what it means there
+-- a line: one answer of its kind, each refusal with its cause; the source of a backup that is done is there; and in each
+-- state that the keeper keeps, what the line means there, with the bytes that it read
 pub record StepsLine {K : Type 0} (shelf : K → ShelfTold) (keeps : K → State → Option Change → Type 0) (known : K → Name → Type 0) (limits : Limits) (old : Moment K) (line : Line) (answer : Answer) (new : Moment K) : Type 0 where
   pub kind : IsTrue (fits limits line answer)
   pub causes : CausesRise (counts_over (shelf old.keeper) old.places) (counts_over (shelf new.keeper) new.places) (answer ∷ [])
   pub others : OnFiles old.places.files new.places.files (KeepsOthers (line ∷ []))
-  pub means : (S : State) (other : Option Change) (sources : Sources) → keeps old.keeper S other → AreFedBy old.places.files sources (line ∷ [])
+  pub reads : Reads
+  pub read : AreRead old.places.files (line ∷ []) reads
+  pub there : is_refused answer ≡ false → AllByRecursion (IsThere old.places.files) (sources_of line)
+  pub means : (S : State) (other : Option Change) (sources : Sources) → keeps old.keeper S other → AreFed sources reads
       → (next : Option Change) × keeps new.keeper (after sources S line answer) next × StepsOn limits sources S other line answer next (known old.keeper) (known new.keeper) (shelf old.keeper) (shelf new.keeper)
-  pub output : (S : State) (other : Option Change) (sources : Sources) → keeps old.keeper S other → AreFedBy old.places.files sources (line ∷ [])
-      → OnFiles old.places.files new.places.files (IsOutputOf S line answer)
+  pub output : (S : State) (other : Option Change) → keeps old.keeper S other → OnFiles old.places.files new.places.files (IsOutputOf S line answer)
 
 -- the lines one after another, from one moment to another
 abbrev pub Chain : {M : Type 0} → (M → Line → Answer → M → Type 0) → M → List Line → List Answer → M → Type 0

@@ -4,7 +4,9 @@
 //! another are such a run. All of it are laws over the definitions: a call that runs lines cites their proofs.
 #![tactic(auto)]
 
-ghost use Rattle.std.specs.Prelude.{◌≡◌, ◌≤◌, ◌<◌, ◌+◌, ◌-◌, ◌^◌, ℕ, true, false, IsTrue, List, [], ◌∷◌, Option, None, Some, Result, count_by};
+ghost use Rattle.std.specs.Prelude.{◌≡◌, ◌≤◌, ◌<◌, ◌+◌, ◌-◌, ◌^◌, ℕ, true, false, IsTrue, List, [], ◌∷◌, Option, None, Some, Result, count_by, flat_map};
+ghost use Rattle.std.specs.List.{IsDistinct};
+ghost use Rattle.std.specs.Str.{bytes_eq};
 ghost use Rattle.vault_types.specs.declared.Answer.{Answer};
 ghost use Rattle.vault_types.specs.declared.Answer.TheVariants.{Refused};
 ghost use Rattle.vault_types.specs.declared.Fault.{Fault};
@@ -16,6 +18,7 @@ ghost use Rattle.vault_types.specs.declared.Name.{Name};
 ghost use Rattle.vault_types.specs.declared.Line.TheVariants.{Backup, Restore, Delete};
 ghost use Rattle.vault_types.specs.Events.{Change, HasChange, IsChange};
 ghost use Rattle.vault_types.specs.Lists.{IsAscending};
+ghost use Rattle.vault_types.specs.Words.{sources_of};
 ghost use Rattle.vault_types.specs.Bytes.{bytes_of};
 ghost use Rattle.vault_types.specs.Script.{Reaches, Sources, after, state_after, IsAnswer};
 ghost use Rattle.vault_types.specs.Shelf.{Blobs, StandsNearly};
@@ -23,12 +26,12 @@ ghost use Rattle.vault_types.specs.State.{KeptVersion, State, IsValid, version_o
 ghost use Rattle.vault_traits.specs.Counts.{RiseFrom, Rose};
 ghost use Rattle.vault_traits.specs.Crash.{History, LeavesNowIfTold, LeavesOnlyIfTold};
 ghost use Rattle.vault_traits.specs.Files.{AreKept, ChangesOnly, MayBeEmptied};
-ghost use Rattle.vault_traits.specs.Told.{PlacesTold, ShelfTold, SinkTold, SourceTold};
+ghost use Rattle.vault_traits.specs.Told.{Files, PlacesTold, ShelfTold, SinkTold, SourceTold};
 ghost use Rattle.script_laws.specs.Calls.{AroundSink, AroundSource, BacksUpLine, DeletesLine, RestoresLine, backup_answer, restore_answer};
 ghost use Rattle.script_laws.specs.Causes.{CausesRise, Counts};
 ghost use Rattle.script_laws.specs.Complete.{AreBelowLast, IsWell, is_counted};
 ghost use Rattle.script_laws.specs.Leaves.{BearsLines, BearsOnceDone, IsOr, MayBeDone, StandsForOne, has_change};
-ghost use Rattle.script_laws.specs.Outputs.{AreApartLines};
+ghost use Rattle.script_laws.specs.Outputs.{AreApartLines, AreFed, AreFedBy, AreRead, Reads};
 ghost use Rattle.script_laws.specs.Script.{MeansScript, RunsLines};
 ghost use Rattle.script_laws.specs.Strays.{StraysOf};
 ghost use Rattle.script_laws.specs.Steps.{Chain, Moment, StepsLine, StepsOn, answer_of};
@@ -129,6 +132,13 @@ pub fn lines_stay_well()
 pub fn lines_keep_bytes()
     ensures { (sources : Sources) (S : State) (line : Line) (answer : Answer) (t v : ℕ) (j q : KeptVersion) → IsValid S → IsValid (after sources S line answer) → IsAnswer sources S line answer
         → version_of S t v ≡ Some j → version_of (after sources S line answer) t v ≡ Some q → bytes_of (after sources S line answer) t v ≡ bytes_of S t v }
+{}
+
+/// The bytes that lines read are those of sources that are told, and there are sources with them where no name is read twice.
+pub fn reads_are_sources()
+    ensures told { (files : Option Files) (sources : Sources) (lines : List Line) (reads : Reads) → AreRead files lines reads → AreFedBy files sources lines → AreFed sources reads }
+    ensures some { (files : Option Files) (lines : List Line) (reads : Reads) → AreRead files lines reads → IsDistinct bytes_eq (flat_map sources_of lines)
+        → (sources : Sources) × AreFed sources reads }
 {}
 
 /// What lines leave of a crash, line by line, comes to this: at any moment it leaves a state that the lines reach, and at

@@ -23,8 +23,8 @@ macro_rules! stored {
     };
 }
 
-// What a first backup gives, within a limit of chunks: the end, the answers, what is printed on the out sink, and whether
-// the recipe is there.
+// What a first backup gives, within a limit of chunks: its status and its answer, what is printed on the out sink, and
+// whether the recipe is there.
 struct Case {
     input: &'static [u8],
     status: u8,

@@ -132,7 +132,7 @@ const SETS_SHARE_THEIR_CONTAINERS: Group = Group {
     ],
 };
 
-// Places with these files, whose writers have room for all that is written.
+// The names and the bytes of these files.
 fn files_of(alloc: Global, files: &[File]) -> Result<Vec<(String, Vec<u8>)>, Fail> {
     let mut all = Vec::new(alloc);
     for (name, bytes) in files {
@@ -141,8 +141,8 @@ fn files_of(alloc: Global, files: &[File]) -> Result<Vec<(String, Vec<u8>)>, Fai
     Ok(all)
 }
 
-/// Places with these files, whose writers have room for all that is written.
-pub fn places_of(alloc: Global, files: &[File]) -> Result<MemPlaces, Fail> {
+// Places with these files, whose writers have room for all that is written.
+fn places_of(alloc: Global, files: &[File]) -> Result<MemPlaces, Fail> {
     Ok(MemPlaces::with(alloc, files_of(alloc, files)?, 1_048_576)?)
 }
 

@@ -140,7 +140,8 @@ fn filled(
     }
     let filled = filler.finish();
     let backup = backup_of(alloc, &filled)?;
-    if let Some(unsealed) = filled.last {
+    let Filled { last, .. } = filled;
+    if let Some(unsealed) = last {
         add_to(alloc, index, &unsealed.seal())?;
     }
     Ok(backup)

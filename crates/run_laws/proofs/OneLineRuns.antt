@@ -1,5 +1,5 @@
 -- Runs of one line behind an opening.
-use Rattle.std.proofs.Common.{◌≡◌, ◌≤◌, ℕ, IsTrue, List, [], ◌∷◌, Option, Some, None, refl, sym, subst}
+use Rattle.std.proofs.Common.{◌≡◌, ◌≤◌, ℕ, IsTrue, List, [], ◌∷◌, Option, Some, None, refl, sym, ◌∙◌, ap, subst}
 use Rattle.std.specs.Prelude.{Result, Ok, Err, OnOk, IfSome, false}
 use Rattle.vault_types.specs.declared.Limits.{Limits}
 use Rattle.vault_types.specs.declared.JobConfig.{JobConfig}
@@ -86,6 +86,7 @@ module _ {K : Type 0} (shelf : K → ShelfTold) (keeps : K → State → Option 
     answer = answer_of result;
     one = refl;
     runs = runs;
+    blobs = λ S start. ap (λ (t : ShelfTold). t.blobs) closed ∙ call.blobs S None (begins S start) ∙ same.blobs;
     written = λ S start. call.written S None (begins S start);
     printed = printed;
     input = input;

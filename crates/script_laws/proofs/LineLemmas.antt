@@ -36,6 +36,7 @@ use Rattle.script_laws.specs.Strays.{MayStayBehind}
 use Rattle.script_laws.specs.Steps.{StepsOn, StandsWith, read_numbered, write_numbered}
 use Rattle.script_laws.specs.Calls.{HasWritten}
 use Rattle.script_laws.proofs.Following.{near_with}
+use Rattle.script_laws.proofs.Forms.{same_forms}
 
 -- ---- a refusal that moves nothing
 
@@ -52,6 +53,7 @@ unmoved limits sources S other line f Known shelf means complete gets = record {
     behind = images;
   };
   settles = λ is. absurd (refused (changes line) is);
+  forms = same_forms S shelf.blobs;
 }
   where
     Either : Blobs → Type 0
@@ -188,6 +190,7 @@ as_backup limits sources S other next s name config answer Known Behind old new 
   strays = record { later = st.strays.later; others = st.strays.others; few = st.strays.few; each = st.strays.each };
   crash = λ images. let both = st.crash images in record { any_moment = both.any_moment; behind = both.behind };
   settles = st.settles;
+  forms = st.forms;
 }
 
 pub as_delete : (limits : Limits) (sources : Sources) (S : State) (other next : Option Change) (s n : ℕ) (answer : Answer) (Known Behind : Name → Type 0) (old new : ShelfTold)
@@ -200,6 +203,7 @@ as_delete limits sources S other next s n answer Known Behind old new st = recor
   strays = record { later = st.strays.later; others = st.strays.others; few = st.strays.few; each = st.strays.each };
   crash = λ images. let both = st.crash images in record { any_moment = both.any_moment; behind = both.behind };
   settles = st.settles;
+  forms = st.forms;
 }
 
 pub as_restore : (limits : Limits) (sources : Sources) (S : State) (other next : Option Change) (s v : ℕ) (name : List ℕ) (cache : ℕ) (answer : Answer) (Known Behind : Name → Type 0) (old new : ShelfTold)
@@ -212,6 +216,7 @@ as_restore limits sources S other next s v name cache answer Known Behind old ne
   strays = record { later = st.strays.later; others = st.strays.others; few = st.strays.few; each = st.strays.each };
   crash = λ images. let both = st.crash images in record { any_moment = both.any_moment; behind = both.behind };
   settles = st.settles;
+  forms = st.forms;
 }
   where
     damage : (a : Answer) → ShowsDamage S (Restore s v [] cache) a → ShowsDamage S (Restore s v name cache) a
@@ -238,6 +243,7 @@ renumber_read limits sources S other next s name config n m Known Behind old new
   strays = record { later = st.strays.later; others = st.strays.others; few = st.strays.few; each = st.strays.each };
   crash = λ images. let both = st.crash images in record { any_moment = both.any_moment; behind = both.behind };
   settles = st.settles;
+  forms = st.forms;
 }
   where
     another : (k : ℕ) → Refused (fault.ReadFault m) ≡ Refused (fault.TooMany k) → ⊥
@@ -444,6 +450,7 @@ write_steps limits sources S other next s v name cache (fault.WriteFault n) m Kn
   strays = record { later = st.strays.later; others = st.strays.others; few = st.strays.few; each = st.strays.each };
   crash = λ images. let both = st.crash images in record { any_moment = both.any_moment; behind = both.behind };
   settles = st.settles;
+  forms = st.forms;
 }
 write_steps limits sources S other next s v name cache f m Known Behind old new st = st
 

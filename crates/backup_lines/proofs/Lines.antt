@@ -29,7 +29,9 @@ use Rattle.script_laws.specs.Causes.{CausesRise, counts_of_source, fits}
 use Rattle.script_laws.specs.Complete.{IsWell, IsWellAnswered}
 use Rattle.script_laws.specs.Steps.{BearsStep, IsNextOther, StandsWith, StepsOn}
 use Rattle.script_laws.specs.Table.{MeansLine}
+use Rattle.script_laws.specs.Recipes.{KeepsForms}
 use Rattle.script_laws.proofs.Following.{near_with}
+use Rattle.script_laws.proofs.Forms.{grown_forms, still_forms}
 use Rattle.script_laws.proofs.LineLemmas.{unmoved, full_is, full_means, not_full_means}
 use Rattle.vault_types.specs.declared.Pending.TheVariants as pending
 use Rattle.serial_delete.specs.Keeping.{IsStateWith, IsKnownStray}
@@ -91,6 +93,8 @@ module _ (u v : View) (ps : List Pin) (s : ℕ) (config : JobConfig) (limits : L
         strays = record { later = h.store_later; others = []; few = λ below. omega arith; each = λ n known. inl (h.strays n known) };
         crash = λ images. done_bears (λ _. x) K.state K.other line (stored K.state s x config) (backup K.state s h.read config) u.told.history v.told.history same (h.crash K keeps images) (h.crash_after K keeps);
         settles = λ done. more_now (λ c. Stands c (backup K.state s h.read config)) (λ c. Stands c (after (λ _. x) K.state line (stored K.state s x config))) (λ c stands. subst (Stands c) same stands) v.told.history (h.crash_after K keeps);
+        forms = subst (λ (T : State). KeepsForms K.state T u.told.blobs v.told.blobs) same
+            (grown_forms K.state s h.read config u.told.blobs v.told.blobs keeps.core.state (h.recipes K keeps) (λ k is. h.second told K k keeps is));
       },
     )
       where
@@ -145,6 +149,7 @@ module _ (u v : View) (ps : List Pin) (s : ℕ) (config : JobConfig) (limits : L
         };
         crash = λ images. refused_bears (λ _. x) K.state K.other line f r.other u.told.history v.told.history (r.any_moment images) (r.behind images);
         settles = λ done. cc;
+        forms = still_forms K.state u.told.blobs v.told.blobs (h.recipes K keeps);
       },
     )
       where

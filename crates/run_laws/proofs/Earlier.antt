@@ -49,7 +49,7 @@ means_earlier : (limits : Limits) (lines : List Line) (answers : List Answer) (m
     → MeansScript limits sources S lines answers Known mid new → MeansScript limits sources S lines answers Told (with_faults mid n) new
 means_earlier limits lines answers mid new n later sources S Known Told told m = record {
   table = m.table;
-  shelf = record { blobs = m.shelf.blobs; valid = m.shelf.valid; loads = m.shelf.loads };
+  shelf = record { blobs = m.shelf.blobs; valid = m.shelf.valid; forms = m.shelf.forms; loads = m.shelf.loads };
   strays = record { later = omega (arith, later, m.strays.later); others = m.strays.others; few = λ below. omega (arith, m.strays.few below, later, m.strays.later); each = λ q stray. ⊎_elim (λ stays. inl (stay_more limits sources S lines answers Known Told told q stays)) (λ other. inr other) (m.strays.each q stray) };
   crash = m.crash;
   once_done = m.once_done;

@@ -89,6 +89,7 @@ module _ {K : Type 0} (shelf : K → ShelfTold) (keeps : K → State → Option 
     answer = answer_of result;
     one = refl;
     runs = runs;
+    blobs = λ S start. ap (λ (t : ShelfTold). t.blobs) closed ∙ call.blobs S None (begins S start) ∙ same.blobs;
     written = λ S start. call.written S None (begins S start);
     printed = printed;
     input = input;

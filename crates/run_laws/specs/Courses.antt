@@ -60,6 +60,7 @@ pub record RunsRestore (set version cache : ℕ) (limits : Limits) (before now :
   pub answer : Answer
   pub one : answers ≡ answer ∷ []
   pub runs : RunsLine limits [] (Restore set version [] cache) before.shelf now.shelf answer (counts_of_sink before.shelf before.out) (counts_of_sink now.shelf now.out)
+  pub blobs : (S : State) → Begins before.shelf S → now.shelf.blobs ≡ before.shelf.blobs
   pub written : (S : State) → Begins before.shelf S → HasWritten S set version answer before.out.taken now.out.taken
   pub printed : IsPrinted (report_text answers) before.report now.report f
   pub input : now.input ≡ before.input

@@ -9,7 +9,7 @@ use Rattle.vault_types.specs.declared.Fault.TheVariants as fault
 use Rattle.vault_types.specs.declared.Answer.{Answer}
 use Rattle.vault_types.specs.declared.Answer.TheVariants.{Migrated, Refused}
 use Rattle.vault_types.specs.State.{State, KeptVersion, dataset, floor_of, version_of, recipe_of}
-use Rattle.vault_types.specs.Blobs.{recipe_bytes_1, recipe_bytes_2}
+use Rattle.vault_types.specs.Blobs.{recipe_bytes_1}
 use Rattle.vault_types.specs.Bytes.{IsSound}
 use Rattle.vault_types.specs.Shelf.{Blobs, Stands, blob_at, recipe_name}
 use Rattle.vault_types.specs.Events.{Change, IsNear}
@@ -19,6 +19,7 @@ use Rattle.vault_types.specs.Script.{row_ids, is_refused}
 use Rattle.vault_traits.specs.Counts.{counted_up}
 use Rattle.vault_traits.specs.Crash.{History, LeavesNowIfTold, LeavesOnlyIfTold}
 use Rattle.vault_traits.specs.Told.{ShelfTold}
+use Rattle.keeper_parts.specs.Recipes.{IsSecond}
 use Rattle.script_laws.specs.Calls.{Keeping}
 use Rattle.script_laws.specs.Causes.{CausesRise, counts_of_shelf}
 use Rattle.script_laws.specs.Complete.{is_counted}
@@ -41,12 +42,9 @@ versions_below S (suc s) = versions_below S s ++ versions_from s (floor_of S s) 
 abbrev pub kept_versions : State → List (ℕ × ℕ)
 kept_versions S = versions_below S (length S.datasets)
 
--- the recipe of the version is spelled in the first format, or in the second
+-- the recipe of the version is spelled in the first format
 abbrev pub IsFirst : Option Blobs → ℕ → ℕ → KeptVersion → Type 0
 IsFirst told s v k = blob_at told (recipe_name s v) ≡ Some (recipe_bytes_1 (recipe_of s v k))
-
-abbrev pub IsSecond : Option Blobs → ℕ → ℕ → KeptVersion → Type 0
-IsSecond told s v k = blob_at told (recipe_name s v) ≡ Some (recipe_bytes_2 k.sum (recipe_of s v k))
 
 -- a version whose recipe is in the first format, and how many loads a restore of it with 16 slots can do with at least
 pub record IsOneFirst (told : Option Blobs) (S : State) (s v least : ℕ) : Type 0 where

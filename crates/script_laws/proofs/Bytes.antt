@@ -134,6 +134,23 @@ module _ (sources : Sources) where
       omega arith))
       (stays sources S line answer go.0 go.1 t v j was)
 
+  -- a version that is kept before and behind is there between, and it is the same behind
+  pub between : (S : State) (line : Line) (answer : Answer) (lines : List Line) (answers : List Answer) → GoesOn sources S (line ∷ lines) (answer ∷ answers) → (t v : ℕ) (j k : KeptVersion) → version_of S t v ≡ Some j
+      → version_of (state_after sources (after sources S line answer) lines answers) t v ≡ Some k → version_of (after sources S line answer) t v ≡ Some j
+  between S line answer lines answers go t v j k was is = ⊎_elim
+      (λ still. still)
+      (λ gone. absurd (
+      let low = version_low (state_after sources (after sources S line answer) lines answers) t v k is in
+      let rise = floors_rise (after sources S line answer) lines answers go.3 t in
+      omega arith))
+      (stays sources S line answer go.0 go.1 t v j was)
+
+  pub kept_same : (S : State) (lines : List Line) (answers : List Answer) → GoesOn sources S lines answers → (t v : ℕ) (j k : KeptVersion) → version_of S t v ≡ Some j → version_of (state_after sources S lines answers) t v ≡ Some k → j ≡ k
+  kept_same S [] [] go t v j k was is = let e : ◌≡◌ {A = Option KeptVersion} (Some j) (Some k) = sym was ∙ is in cc
+  kept_same S [] (answer ∷ answers) go t v j k was is = absurd go
+  kept_same S (line ∷ lines) [] go t v j k was is = absurd go
+  kept_same S (line ∷ lines) (answer ∷ answers) go t v j k was is = kept_same (after sources S line answer) lines answers go.3 t v j k (between S line answer lines answers go t v j k was is) is
+
 module _ (limits : Limits) (sources : Sources) where
   valid_before : (S : State) (lines : List Line) (answers : List Answer) → Goes limits sources S lines answers → IsValid S
   valid_before S [] [] go = go

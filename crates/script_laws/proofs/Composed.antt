@@ -16,7 +16,9 @@ use Rattle.script_laws.specs.Leaves.{MayBeDone, StandsOrNearly}
 use Rattle.vault_types.specs.Bytes.{IsSound}
 use Rattle.script_laws.specs.Complete.{IsWell, IsComplete}
 use Rattle.script_laws.proofs.Staying.{AreWell, well_alone, well_behind, wide, wide_well}
-use Rattle.script_laws.proofs.Bytes.{Goes, GoesOn, keep_bytes, kept_on, reached_behind}
+use Rattle.script_laws.proofs.Bytes.{Goes, GoesOn, between, keep_bytes, kept_on, kept_same, reached_behind}
+use Rattle.script_laws.specs.Recipes.{KeepsForms}
+use Rattle.script_laws.proofs.Forms.{forms_then, same_forms}
 use Rattle.script_laws.specs.Table.{MeanLines}
 use Rattle.script_laws.specs.Outputs.{AreApartLines, OnFiles, KeepsOthers, AreOutputs}
 use Rattle.script_laws.specs.Script.{MeansScript, RunsLines}
@@ -96,6 +98,15 @@ module _ {K : Type 0} (shelf : K → ShelfTold) (keeps : K → State → Option 
   on sources S other old new (line ∷ lines) (answer ∷ answers) keep chain =
       ((keeps_is old.keeper S other keep).valid, chain.3.means.done, (keeps_is chain.0.keeper (after sources S line answer) chain.1 chain.2).valid, on sources (after sources S line answer) chain.1 chain.0 new lines answers chain.2 chain.6)
 
+  forms : (sources : Sources) (S : State) (other : Option Change) (old new : Moment K) (lines : List Line) (answers : List Answer) → Follows shelf keeps known limits sources S other old lines answers new → GoesOn sources S lines answers
+      → KeepsForms S (state_after sources S lines answers) (shelf old.keeper).blobs (shelf new.keeper).blobs
+  forms sources S other old new [] [] chain go = subst (λ (m : Moment K). KeepsForms S S (shelf old.keeper).blobs (shelf m.keeper).blobs) (sym chain) (same_forms S (shelf old.keeper).blobs)
+  forms sources S other old new [] (answer ∷ answers) chain go = absurd chain
+  forms sources S other old new (line ∷ lines) [] chain go = absurd chain
+  forms sources S other old new (line ∷ lines) (answer ∷ answers) chain go =
+      forms_then S (after sources S line answer) (state_after sources (after sources S line answer) lines answers) (shelf old.keeper).blobs (shelf chain.0.keeper).blobs (shelf new.keeper).blobs
+      (between sources S line answer lines answers go) (kept_same sources (after sources S line answer) lines answers go.3) chain.3.forms (forms sources (after sources S line answer) chain.1 chain.0 new lines answers chain.6 go.3)
+
   all_well : (sources : Sources) (S : State) (other : Option Change) (old new : Moment K) (lines : List Line) (answers : List Answer) → Follows shelf keeps known limits sources S other old lines answers new → IsWell limits sources S lines
       → AreWell limits sources S lines answers × IsSound (state_after sources S lines answers)
   all_well sources S other old new [] [] chain w = (tt, w.sound)
@@ -117,6 +128,7 @@ module _ {K : Type 0} (shelf : K → ShelfTold) (keeps : K → State → Option 
         shelf = record {
           blobs = stands_at_end (state_after sources S lines answers) (MayBeDone sources S lines answers) last.0 is.valid is.change is.changed (λ T h. left_alone sources S lines answers T (last.2 T h)) (shelf new.keeper).blobs is.blobs;
           valid = is.valid;
+          forms = forms sources S None old new lines answers chain (on sources S None old new lines answers keep chain);
           loads = loads shelf keeps known limits sources S None old new lines answers chain;
         };
         strays = record { later = passed.later; others = passed.others; few = passed.few; each = λ n stray. passed.each n (strays_known new.keeper (state_after sources S lines answers) last.0 last.1 n stray) };

@@ -4,6 +4,7 @@ pub mod Chained
 pub mod Names
 pub mod Staying
 pub mod Bytes
+pub mod Forms
 pub mod Following
 pub mod Crashing
 pub mod Near

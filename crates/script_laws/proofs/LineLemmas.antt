@@ -37,6 +37,7 @@ use Rattle.script_laws.specs.Strays.{MayStayBehind}
 use Rattle.script_laws.specs.Steps.{StepsOn, StandsWith, read_numbered, write_numbered}
 use Rattle.script_laws.specs.Calls.{HasWritten, writes_all}
 use Rattle.script_laws.proofs.Following.{near_with}
+use Rattle.script_laws.proofs.Forms.{same_forms}
 
 -- ---- a refusal that moves nothing
 
@@ -53,6 +54,7 @@ unmoved limits sources S other line f Known shelf means complete gets = record {
     behind = images;
   };
   settles = λ is. absurd (refused (changes line) is);
+  forms = same_forms S shelf.blobs;
 }
   where
     Either : Blobs → Type 0
@@ -189,6 +191,7 @@ as_backup limits sources S other next s name config answer Known Behind old new 
   strays = record { later = st.strays.later; others = st.strays.others; few = st.strays.few; each = st.strays.each };
   crash = λ images. let both = st.crash images in record { any_moment = both.any_moment; behind = both.behind };
   settles = st.settles;
+  forms = st.forms;
 }
 
 pub as_delete : (limits : Limits) (sources : Sources) (S : State) (other next : Option Change) (s n : ℕ) (answer : Answer) (Known Behind : Name → Type 0) (old new : ShelfTold)
@@ -201,6 +204,7 @@ as_delete limits sources S other next s n answer Known Behind old new st = recor
   strays = record { later = st.strays.later; others = st.strays.others; few = st.strays.few; each = st.strays.each };
   crash = λ images. let both = st.crash images in record { any_moment = both.any_moment; behind = both.behind };
   settles = st.settles;
+  forms = st.forms;
 }
 
 pub as_restore : (limits : Limits) (sources : Sources) (S : State) (other next : Option Change) (s v : ℕ) (name : List ℕ) (cache : ℕ) (answer : Answer) (Known Behind : Name → Type 0) (old new : ShelfTold)
@@ -213,6 +217,7 @@ as_restore limits sources S other next s v name cache answer Known Behind old ne
   strays = record { later = st.strays.later; others = st.strays.others; few = st.strays.few; each = st.strays.each };
   crash = λ images. let both = st.crash images in record { any_moment = both.any_moment; behind = both.behind };
   settles = st.settles;
+  forms = st.forms;
 }
   where
     damage : (a : Answer) → ShowsDamage S (Restore s v [] cache) a → ShowsDamage S (Restore s v name cache) a
@@ -239,6 +244,7 @@ renumber_read limits sources S other next s name config n m Known Behind old new
   strays = record { later = st.strays.later; others = st.strays.others; few = st.strays.few; each = st.strays.each };
   crash = λ images. let both = st.crash images in record { any_moment = both.any_moment; behind = both.behind };
   settles = st.settles;
+  forms = st.forms;
 }
   where
     another : (k : ℕ) → Refused (fault.ReadFault m) ≡ Refused (fault.TooMany k) → ⊥
@@ -433,6 +439,7 @@ write_steps limits sources S other next s v name cache (fault.WriteFault n) m Kn
   strays = record { later = st.strays.later; others = st.strays.others; few = st.strays.few; each = st.strays.each };
   crash = λ images. let both = st.crash images in record { any_moment = both.any_moment; behind = both.behind };
   settles = st.settles;
+  forms = st.forms;
 }
 write_steps limits sources S other next s v name cache f m Known Behind old new st = st
 

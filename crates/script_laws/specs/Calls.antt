@@ -78,6 +78,7 @@ pub record RestoresLine (before behind : Keeping) (Known Behind : Name → Type 
   pub steps : (S : State) (other : Option Change) (limits : Limits) → before S other
       → (next : Option Change) × behind (after (λ _. []) S (Restore set version [] slots) (answer_of result)) next
       × StepsOn limits (λ _. []) S other (Restore set version [] slots) (answer_of result) next Known Behind old new
+  pub blobs : (S : State) (other : Option Change) → before S other → new.blobs ≡ old.blobs
   pub written : (S : State) (other : Option Change) → before S other → HasWritten S set version (answer_of result) from.taken to.taken
   pub short : (S : State) (other : Option Change) → before S other → IfErr result (IsShortAt (bytes_of S set version) from.taken to.taken)
 

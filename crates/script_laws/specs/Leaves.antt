@@ -12,6 +12,7 @@ use Rattle.vault_types.specs.Script.{Sources, after, after_line, is_refused, is_
 use Rattle.vault_traits.specs.Counts.{counted_up}
 use Rattle.vault_traits.specs.Crash.{History, LeavesNowIfTold, LeavesOnlyIfTold}
 use Rattle.vault_traits.specs.Told.{ShelfTold}
+use Rattle.script_laws.specs.Recipes.{KeepsForms}
 
 -- a backup or a deletion that was done
 abbrev pub is_change : Line → Answer → Bool
@@ -74,6 +75,7 @@ pub record HasLoaded (sources : Sources) (S : State) (lines : List Line) (answer
 pub record LeavesShelf (sources : Sources) (S : State) (lines : List Line) (answers : List Answer) (old new : ShelfTold) : Type 0 where
   pub blobs : IsSomeAnd new.blobs (StandsOrNearly (state_after sources S lines answers) (MayBeDone sources S lines answers))
   pub valid : IsValid (state_after sources S lines answers)
+  pub forms : KeepsForms S (state_after sources S lines answers) old.blobs new.blobs
   pub loads : HasLoaded sources S lines answers old.gets new.gets
 
 -- where a crash comes

@@ -5,6 +5,7 @@ pub mod Outputs
 pub mod Strays
 pub mod Complete
 pub mod Keeping
+pub mod Recipes
 pub mod Script
 pub mod View
 pub mod Steps

@@ -18,7 +18,7 @@ use Rattle.script_laws.specs.Strays.{StraysAreKnown, StraysOf}
 use Rattle.script_laws.specs.Complete.{IsSafe, IsWell, IsComplete}
 use Rattle.script_laws.specs.Keeping.{HasBytesOf, KeepBytes}
 
--- what lines mean in a state, where these names are known as strays: the table of answers, the blobs, the loads and the
+-- what lines mean in a state, where these names are known as strays: the table of answers, the blobs, the recipes, the loads and the
 -- strays; what a crash leaves, where one at the beginning leaves only what stands for the state, and behind each change that
 -- was done also where it does not; that each version that stays keeps its bytes; and where the state
 -- is sound and no chunks clash, that each version has its bytes, also in a state that a crash leaves behind the first lines

@@ -23,6 +23,7 @@ use Rattle.script_laws.specs.Leaves.{Gets, is_change}
 use Rattle.script_laws.specs.Complete.{IsWell, IsWellAnswered}
 use Rattle.script_laws.specs.Outputs.{OnFiles, KeepsOthers, IsOutputOf, Reads, AreRead, AreFed}
 use Rattle.script_laws.specs.Strays.{MayStayBehind}
+use Rattle.script_laws.specs.Recipes.{KeepsForms}
 
 abbrev pub answer_of : Result Answer Fault → Answer
 answer_of (Ok answer) = answer
@@ -72,6 +73,7 @@ pub record StepsOn (limits : Limits) (sources : Sources) (S : State) (other : Op
   pub next_other : IsNextOther sources S other line answer next
   pub gets : (n : ℕ) × (new.gets ≡ counted_up old.gets n) × Gets S line answer n
   pub strays : StraysStep limits S line answer Known Behind old new
+  pub forms : KeepsForms S (after sources S line answer) old.blobs new.blobs
   pub crash : LeavesNowIfTold old.history (IsNear S other) → BearsStep sources S other line answer next old.history new.history
   pub settles : IsTrue (is_change line answer) → LeavesNowIfTold new.history (λ m. Stands m (after sources S line answer))
 

@@ -18,6 +18,7 @@ use Rattle.vault_types.specs.Refusals.{due_refusal, refuses_by_state, IsExact}
 use Rattle.vault_traits.specs.Counts.{Rose}
 use Rattle.vault_traits.specs.Crash.{LeavesNowIfTold, LeavesOnlyIfTold}
 use Rattle.deletion_laws.specs.Deleting.{IsDeleting}
+use Rattle.keeper_parts.specs.Recipes.{KeepsRecipes}
 use Rattle.keeper_catalog.specs.Catalog.{Memo}
 use Rattle.keeper_catalog.specs.View.{View, Keeps, HasCore}
 use Rattle.keeper_core.specs.Calls.{IsHalf, IsStill, IsDeletionFault, IsShelfFault}
@@ -31,6 +32,7 @@ use Rattle.deletion_laws.proofs.Keeping.{delete_valid}
 use Rattle.script_laws.proofs.Staying.{below_set}
 use Rattle.script_laws.proofs.LineLemmas.{unmoved}
 use Rattle.serial_delete.specs.Keeping.{IsStateWith, IsKnownStray}
+use Rattle.script_laws.proofs.Forms.{shrunk_forms, still_forms}
 use Rattle.serial_delete.proofs.Keeping.{changed_of, images_of}
 use Rattle.serial_delete.proofs.Crashes.{still_bears, half_bears, half_next, done_bears, near_alone}
 
@@ -81,6 +83,8 @@ pub record Clauses (u v : View) (s n : ℕ) (result : Result Answer Fault) : Typ
   pub due : OnErr result (v.pending ≡ pending.Not → u.pending ≡ pending.Not)
   pub few : OnOk result (v.told.faults < 2 ^ 64 - 1 → length v.memo.strays + u.told.faults ≤ v.told.faults)
   pub gets : v.told.gets ≡ u.told.gets
+  pub recipes : OnOk result (IsSome u.told.blobs → (K : Core) → Keeps u K → KeepsRecipes (delete K.state s n) u.told.blobs v.told.blobs)
+  pub all_recipes : OnErr result ((K : Core) → Keeps u K → KeepsRecipes K.state u.told.blobs v.told.blobs)
 
 -- ---- the table of answers
 
@@ -154,6 +158,7 @@ module _ (u v : View) (ps : List Pin) (s n : ℕ) (limits : Limits) where
         strays = record { later = c.later; others = v.memo.strays; few = λ below. omega (arith, c.few below, c.later); each = λ q known. inr known };
         crash = λ now. done_bears (λ _. []) K.state K.other (Delete s n) (removed K.state s n) (delete_change s n K.state) u.told.history v.told.history refl (c.any_moment K keeps now) (c.acknowledged K keeps images);
         settles = λ done. near_alone (delete K.state s n) v.told.history (c.acknowledged K keeps images);
+        forms = shrunk_forms K.state s n u.told.blobs v.told.blobs keeps.core.state (c.ok K keeps).0 (c.recipes told K keeps);
       },
     )
 
@@ -186,6 +191,7 @@ module _ (u v : View) (ps : List Pin) (s n : ℕ) (limits : Limits) where
             strays = record { later = c.later; others = []; few = λ below. omega arith; each = λ q known. inl (stays q known) };
             crash = λ images. still_bears (λ _. []) K.state K.other (Delete s n) (fault.StoreFault m) u.told.history v.told.history (same.any_moment images);
             settles = λ done. cc;
+            forms = still_forms K.state u.told.blobs v.told.blobs (c.all_recipes K keeps);
           },
         )
 
@@ -201,6 +207,7 @@ module _ (u v : View) (ps : List Pin) (s n : ℕ) (limits : Limits) where
             strays = record { later = c.later; others = []; few = λ below. omega arith; each = λ q known. inl (stays q known) };
             crash = λ now. half_bears (λ _. []) K.state K.other (Delete s n) (fault.StoreFault m) half.other u.told.history v.told.history (half.any_moment now) (half.behind now);
             settles = λ done. cc;
+            forms = still_forms K.state u.told.blobs v.told.blobs (c.all_recipes K keeps);
           },
         )
 

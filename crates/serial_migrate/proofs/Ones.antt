@@ -35,7 +35,8 @@ use Rattle.keeper_core.specs.Calls.{IsWholeOf, IsPinDamage}
 use Rattle.keeper_core.specs.Replacing.{IsRefused}
 use Rattle.keeper_core.proofs.Replacings.{version_there, near_wider}
 use Rattle.script_laws.specs.Complete.{is_counted}
-use Rattle.run_laws.specs.Migrating.{IsFirst, IsSecond, HaveFirst, ShowsDamage}
+use Rattle.keeper_parts.specs.Recipes.{IsSecond}
+use Rattle.run_laws.specs.Migrating.{IsFirst, HaveFirst, ShowsDamage}
 use Rattle.vault_types.specs.declared.Pending.TheVariants as pending
 use Rattle.serial_delete.specs.Keeping.{IsStateOf}
 use Rattle.serial_delete.proofs.Keeping.{changed_of, images_of}

@@ -16,7 +16,8 @@ use Rattle.keeper_parts.proofs.Growing.{floor_pos}
 use Rattle.keeper_catalog.specs.View.{View, Keeps}
 use Rattle.keeper_core.proofs.Replacings.{version_there}
 use Rattle.script_laws.proofs.Rising.{counted_up_twice}
-use Rattle.run_laws.specs.Migrating.{IsSecond, HaveFirst, kept_versions, versions_from, versions_below}
+use Rattle.keeper_parts.specs.Recipes.{IsSecond}
+use Rattle.run_laws.specs.Migrating.{HaveFirst, kept_versions, versions_from, versions_below}
 use Rattle.serial_delete.specs.Keeping.{IsStateOf}
 use Rattle.serial_migrate.specs.Going.{LeavesOne, Went, Halted, IsBefore, Gone, AllDone, Ended}
 use Rattle.serial_migrate.proofs.Counts.{have_append, have_split, have_same, have_head, have_moved, from_goes_on}

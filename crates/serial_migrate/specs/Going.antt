@@ -15,7 +15,8 @@ use Rattle.vault_traits.specs.Counts.{counted_up, Rose}
 use Rattle.vault_traits.specs.Crash.{LeavesNowIfTold, LeavesOnlyIfTold}
 use Rattle.keeper_catalog.specs.View.{View}
 use Rattle.script_laws.specs.Complete.{is_counted}
-use Rattle.run_laws.specs.Migrating.{IsSecond, HaveFirst, ShowsDamage, kept_versions}
+use Rattle.keeper_parts.specs.Recipes.{IsSecond}
+use Rattle.run_laws.specs.Migrating.{HaveFirst, ShowsDamage, kept_versions}
 use Rattle.serial_delete.specs.Keeping.{IsStateOf, IsKnownStray}
 
 -- the job and the pins stay, and the count of faults has not fallen

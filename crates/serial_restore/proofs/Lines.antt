@@ -22,11 +22,12 @@ use Rattle.vault_types.specs.Events.{Core, Change, IsNear, with_pins, Pin}
 use Rattle.vault_types.specs.Plans.{requests, IsLeast}
 use Rattle.vault_types.specs.Refusals.{is_of_state, may_refuse, refuses_by_state, IsExact}
 use Rattle.vault_types.specs.Script.{row_ids, after, is_refused, IsDone}
-use Rattle.vault_types.specs.Shelf.{Blobs, recipe_name}
+use Rattle.vault_types.specs.Shelf.{Blobs, blob_at, recipe_name}
 use Rattle.vault_types.specs.State.{State, IsValid, KeptVersion, version_of, is_kept, floor_of, latest_of}
 use Rattle.vault_traits.specs.Counts.{Rose}
 use Rattle.vault_traits.specs.Crash.{History, LeavesNowIfTold, LeavesOnlyIfTold}
 use Rattle.vault_traits.specs.Told.{SinkTold}
+use Rattle.vault_traits.proofs.Maps.{same_blobs}
 use Rattle.vault_traits.proofs.Moments.{ends, more}
 use Rattle.restore_assembler.proofs.Written.{takes_nothing}
 use Rattle.keeper_catalog.specs.View.{View, Keeps, HasCore}
@@ -42,6 +43,7 @@ use Rattle.script_laws.specs.Leaves.{Gets}
 use Rattle.script_laws.specs.Steps.{StepsOn, StraysStep, BearsStep, StandsWith, answer_of}
 use Rattle.script_laws.specs.Table.{MeansLine, ShowsDamage}
 use Rattle.script_laws.proofs.Following.{near_with}
+use Rattle.script_laws.proofs.Forms.{still_forms}
 use Rattle.script_laws.proofs.LineLemmas.{unmoved, not_kept_means, not_kept_is}
 use Rattle.vault_types.specs.declared.Pending.TheVariants as pending
 use Rattle.serial_delete.specs.Keeping.{IsStateWith, IsKnownStray}
@@ -199,6 +201,7 @@ module _ (v x : View) (ps : List Pin) (before now : SinkTold) (s n slots : ℕ) 
               strays = no_more (Restored s n (length (bytes_of K.state s n)) is.loads) gone.left;
               crash = λ images. bears limits K.state s n slots K.other (Restored s n (length (bytes_of K.state s n)) is.loads) v.told.history x.told.history refl (gone.left.any_moment K keeps images);
               settles = λ done. cc;
+              forms = still_forms K.state v.told.blobs x.told.blobs (λ t m j below is. (gone.left.state K keeps).recipes t m);
             },
           )
 
@@ -217,6 +220,7 @@ module _ (v x : View) (ps : List Pin) (before now : SinkTold) (s n slots : ℕ) 
               strays = no_more (Refused f) gone.left;
               crash = λ images. bears limits K.state s n slots K.other (Refused f) v.told.history x.told.history refl (gone.left.any_moment K keeps images);
               settles = λ done. cc;
+              forms = still_forms K.state v.told.blobs x.told.blobs (λ t m j below is. (gone.left.state K keeps).recipes t m);
             },
           )
 
@@ -265,6 +269,11 @@ module _ (v x : View) (before now : SinkTold) (s n slots : ℕ) (K : Core) (keep
 
 -- ---- the whole
 
+same_told : (a b : Option Blobs) → IsSome a → IsSome b → ((q : Name) → blob_at b q ≡ blob_at a q) → b ≡ a
+same_told None b one two is = absurd (let e : false ≡ true = one in cc)
+same_told (Some m) None one two is = absurd (let e : false ≡ true = two in cc)
+same_told (Some m) (Some n) one two is = ap (λ (c : Blobs). Some c) (same_blobs n m is)
+
 pub restores : (v x : View) (before now : SinkTold) (s n slots : ℕ) (result : Result Answer Fault) → HasCore v → s < 256
     → ((K : Core) → Keeps v K → is_kept K.state s n ≡ false → result ≡ Err (fault.NotKept s n (floor_of K.state s) (latest_of K.state s)))
     → ((K : Core) → Keeps v K → is_kept K.state s n ≡ false → (x ≡ v) × (now ≡ before))
@@ -274,6 +283,7 @@ restores v x before now s n slots result core range exact still gone ps = record
   kind = λ limits. fitting limits result gone.kind gone.cause;
   causes = rising result gone.kind gone.cause;
   steps = λ S other limits here. goes_from v x ps before now s n slots limits S other (answer_of result) here (steps_in limits here.core here.keeps here.job here.pins here.told (changed_of v S other here) (images_of v S other here) (is_kept here.core.state s n) refl);
+  blobs = λ S other here. blobs_in here.core here.keeps here.told (is_kept here.core.state s n) refl;
   written = λ S other here. subst (λ (T : State). HasWritten T s n (answer_of result) before.taken now.taken) here.state (written_in here.core here.keeps here.told (is_kept here.core.state s n) refl);
   short = λ S other here. subst (λ (T : State). IfErr result (IsShortAt (bytes_of T s n) before.taken now.taken)) here.state (short_in here.core here.keeps here.told (is_kept here.core.state s n) refl);
 }
@@ -296,6 +306,12 @@ restores v x before now s n slots result core range exact still gone ps = record
         let k = version_there K.state s n keeps.core.state kept in
         kept_goes v x ps before now s n slots limits K keeps no_job pinned told changed images k.0 k.1 kept (let sets = keeps.core.state.sets in omega (arith, range, sets)) result gone
     steps_in limits K keeps no_job pinned told changed images false kept = not_kept_goes v x ps before now s n slots limits K keeps no_job pinned told changed images result kept (exact K keeps kept) (still K keeps kept).0
+
+    blobs_in : (K : Core) → Keeps v K → IsSome v.told.blobs → (b : Bool) → is_kept K.state s n ≡ b → x.told.blobs ≡ v.told.blobs
+    blobs_in K keeps told true kept =
+        let k = version_there K.state s n keeps.core.state kept in
+        same_told v.told.blobs x.told.blobs told (gone.left.tells told) ((gone.left.state K keeps).blobs told (subst (λ (o : Option KeptVersion). IsSome o) (sym k.1) refl))
+    blobs_in K keeps told false kept = ap (λ (w : View). w.told.blobs) (still K keeps kept).0
 
     written_in : (K : Core) → Keeps v K → IsSome v.told.blobs → (b : Bool) → is_kept K.state s n ≡ b → HasWritten K.state s n (answer_of result) before.taken now.taken
     written_in K keeps told true kept =

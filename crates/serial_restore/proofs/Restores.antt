@@ -111,11 +111,18 @@ module _ (v u w x : View) (K : Core) (keeps : Keeps v K) (s n no : ℕ) (fresh :
       keeps = subst (λ (pins : List Pin). Keeps x (with_pins pins x.memo.strays K)) (pins_gone no pinned.0 pinned.1 K.pins fresh_pins)
           (releases (with_pins (K.pins ++ pinned.0 ∷ []) K.strays K) (stays.keeps (with_pins (K.pins ++ pinned.0 ∷ []) K.strays K) pinned.2));
       within = λ tells kept q there. at (version_of K.state s n) refl kept tells q there;
+      blobs = λ tells kept q. all_at (version_of K.state s n) refl kept tells q;
       recipes = λ t m.
           let J : Core = with_pins (K.pins ++ pinned.0 ∷ []) K.strays K in
           others J (stays.keeps J pinned.2) (recipe_name t m) (recipe_unreleased J no t m) ∙ ap (λ (b : Option Blobs). blob_at b (recipe_name t m)) (stays.blobs ∙ same);
     }
       where
+        all_at : (o : Option KeptVersion) → version_of K.state s n ≡ o → IsSome o → IsSome v.told.blobs → (q : Name) → blob_at x.told.blobs q ≡ blob_at v.told.blobs q
+        all_at None is some tells q = absurd (let e : false ≡ true = some in cc)
+        all_at (Some k) is some tells q =
+            others (after_pin no s n k K) (stays.keeps (after_pin no s n k K) (ok tells k is)) q (none_released v K no s n k q keeps fresh_pins)
+            ∙ ap (λ (b : Option Blobs). blob_at b q) (stays.blobs ∙ same)
+
         at : (o : Option KeptVersion) → version_of K.state s n ≡ o → IsSome o → IsSome v.told.blobs → (q : Name) → Contains x.memo.strays q → Contains K.strays q
         at None is some tells q there = absurd (let e : false ≡ true = some in cc)
         at (Some k) is some tells q there = ⊎_elim
@@ -139,6 +146,7 @@ stayed_still v x K s n same keeps stay = record {
   keeps = stay K keeps;
   within = λ tells kept q there. there;
   recipes = λ t m. ap (λ (b : Option Blobs). blob_at b (recipe_name t m)) same;
+  blobs = λ tells kept q. ap (λ (b : Option Blobs). blob_at b q) same;
 }
 
 pub moment_still : (v x : View) (K : Core) → x.told.history ≡ v.told.history → LeavesNowIfTold v.told.history (IsNear K.state K.other) → LeavesOnlyIfTold v.told.history x.told.history (IsNear K.state K.other)

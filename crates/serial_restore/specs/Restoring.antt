@@ -56,12 +56,14 @@ IsRestoreFault v w before now S s n (fault.Damaged k i why) =
 IsRestoreFault v w before now S s n fault.Memory = Unit {0}
 IsRestoreFault v w before now S s n other = ⊥
 
--- all is as it was, and nothing more is pinned; names of the store may have ceased to be strays. Each recipe has its bytes
+-- all is as it was, and nothing more is pinned; names of the store may have ceased to be strays. Each recipe has its bytes,
+-- and over a shelf that tells them each other blob too
 pub record HasStayed (v w : View) (K : Core) (s n : ℕ) : Type 0 where
   pub strays : List Name
   pub keeps : Keeps w (with_pins K.pins strays K)
   pub within : IsSome v.told.blobs → IsSome (version_of K.state s n) → (q : Name) → Contains strays q → Contains K.strays q
   pub recipes : (t m : ℕ) → blob_at w.told.blobs (recipe_name t m) ≡ blob_at v.told.blobs (recipe_name t m)
+  pub blobs : IsSome v.told.blobs → IsSome (version_of K.state s n) → (q : Name) → blob_at w.told.blobs q ≡ blob_at v.told.blobs q
 
 -- a version is restored: its bytes, which have its sum, are taken
 pub record IsRestored (v w : View) (before now : SinkTold) (K : Core) (s n : ℕ) (k : KeptVersion) (slots : ℕ) (answer : Answer) : Type 0 where

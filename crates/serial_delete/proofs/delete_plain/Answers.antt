@@ -21,6 +21,8 @@ returns-clause-line g c = deletes _ _ _ _ _ (record {
   due = c.delete_through.ensures.due;
   few = c.delete_through.ensures.few;
   gets = c.delete_through.ensures.gets;
+  recipes = c.delete_through.ensures.recipes;
+  all_recipes = c.delete_through.ensures.all_recipes;
 })
 
 pub returns-clause-follows : goal.returns-clause-follows

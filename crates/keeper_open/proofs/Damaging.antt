@@ -164,7 +164,10 @@ module _ (m : Blobs) (ds : List SetRead) (all : AreSets (Some m) 0 ds) where
 
 pub set_damage : (told now : Option Blobs) (fs : List ℕ) (infos : List SetInfo) (s floor : ℕ) (old new : Notes) (ds : List SetRead) → now ≡ told → AreFloors told 0 fs → length fs ≡ 256 → AreFirstSets told infos s old new ds → s < 256 → IsFloorIn told s floor
     → (k : Kind) (n : ℕ) (w : Why) → IsSetDamage now s floor k n w → IsDamageOf told k n w
-set_damage None now fs infos s floor old new ds same floors count was low is k n w damage = tt
+set_damage None now fs infos s floor old new ds same floors count was low is kind.Recipe n w damage = subst (λ (t : Option Blobs). IsSetDamage t s floor kind.Recipe n w) same damage
+set_damage None now fs infos s floor old new ds same floors count was low is kind.Table n w damage = absurd damage
+set_damage None now fs infos s floor old new ds same floors count was low is kind.Payload n w damage = absurd damage
+set_damage None now fs infos s floor old new ds same floors count was low is kind.Floor n w damage = absurd damage
 set_damage (Some m) now fs infos s floor old new ds same floors count was low is kind.Recipe n w damage =
     let first : IsSetDamage (Some m) s floor kind.Recipe n w = subst (λ (t : Option Blobs). IsSetDamage t s floor kind.Recipe n w) same damage in
     recipe_first m ds was.read fs s floor floors count was.count low is first.0 n w first.1

@@ -33,8 +33,8 @@ use Rattle.keeper_catalog.specs.Catalog.{table_at}
 use Rattle.keeper_open.specs.declared.notes.Chunk.{Chunk}
 use Rattle.keeper_open.specs.declared.notes.Place.{Place}
 use Rattle.keeper_open.specs.declared.notes.Notes.{Notes}
-use Rattle.keeper_open.specs.Damage.{ReadsRecipe, ReadsTable, IsDueFrom, FloorsBefore, IsDamageOf}
-use Rattle.keeper_open.specs.Reading.{SetRead, AreFloors, AreRecipes, AreRead, IsLastDue, IsSetRead, IsVersionDamage, IsSetDamage, IsSetFirst, AreSets, AreTables, last_next, last_sparse, number_of, AreBelow, NotesMore, AreNoted, all_recipes, same_chunk, has_chunk, some_has, left_of, IsFirstTable}
+use Rattle.keeper_open.specs.Damage.{ReadsRecipe, ReadsTable, IsDueFrom, FloorsBefore, IsOpeningWhy, IsDamageOf}
+use Rattle.keeper_open.specs.Reading.{SetRead, AreFloors, AreRecipes, AreRead, IsLastDue, IsSetRead, IsVersionDamage, IsVersionWhy, IsSetDamage, IsSetFirst, AreSets, AreTables, last_next, last_sparse, number_of, AreBelow, NotesMore, AreNoted, all_recipes, same_chunk, has_chunk, some_has, left_of, IsFirstTable}
 use Rattle.keeper_open.proofs.Noting.{cons_cases, first_in, later_in, none_in}
 
 -- causes
@@ -103,8 +103,15 @@ floor_pushed told fs gs s f all count is pushed = subst (λ (l : List ℕ). AreF
 pub floors_before : (m : Blobs) (fs : List ℕ) (s : ℕ) → AreFloors (Some m) 0 fs → s ≤ length fs → FloorsBefore m s
 floors_before m fs s all up t low = (get_or fs t 0, subst (λ (u : ℕ). IsFloorIn (Some m) u (get_or fs t 0)) (let e : 0 + t ≡ t = omega arith in e) (floor_at (Some m) 0 fs t 0 all (omega arith)))
 
+floor_why : (now : Option Blobs) (s : ℕ) (k : Kind) (n : ℕ) (w : Why) → IsFloorDamage now s k n w → IsOpeningWhy k w
+floor_why now s kind.Floor n why.Spelling damage = tt
+floor_why now s kind.Floor n other damage = absurd damage.1
+floor_why now s kind.Table n w damage = absurd damage
+floor_why now s kind.Payload n w damage = absurd damage
+floor_why now s kind.Recipe n w damage = absurd damage
+
 pub floor_damage : (told now : Option Blobs) (fs : List ℕ) (s : ℕ) → now ≡ told → AreFloors told 0 fs → length fs ≡ s → s < 256 → (k : Kind) (n : ℕ) (w : Why) → IsFloorDamage now s k n w → IsDamageOf told k n w
-floor_damage None now fs s same all count low k n w damage = tt
+floor_damage None now fs s same all count low k n w damage = floor_why now s k n w damage
 floor_damage (Some m) now fs s same all count low kind.Floor n w damage =
     let number : n ≡ s = damage.0 in
     (omega (arith, number), floors_before m fs n all (omega (arith, number, count)), subst (λ (t : ℕ). IsFloorWhy (Some m) t w) (sym number) (subst (λ (t : Option Blobs). IsFloorWhy t s w) same damage.1))
@@ -220,6 +227,12 @@ set_read told s floor latest low sparse old new rs was is last up high = record 
   sparse = was.used;
 }
 
+version_why : (now : Option Blobs) (s v low : ℕ) (w : Why) → IsVersionWhy now s v low w → IsOpeningWhy kind.Recipe w
+version_why now s v low (why.Lower before found) is = is.1.3
+version_why now s v low why.Absent is = tt
+version_why now s v low why.Spelling is = tt
+version_why now s v low other is = absurd is
+
 pub version_damage : (told now : Option Blobs) (s floor latest version low : ℕ) (sparse : List ℕ) (old new : Notes) (rs : List Recipe) → now ≡ told → AreVersions told s floor version low sparse old new rs
     → IfSome told (λ m. IsLastDue m s floor latest) → version ≤ latest → latest ≤ 4294967294 → (k : Kind) (n : ℕ) (w : Why) → IsVersionDamage now s version low k n w → IsSetDamage told s floor k n w
 version_damage told now s floor latest version low sparse old new rs same was last up high kind.Table n w damage = damage
@@ -228,7 +241,7 @@ version_damage told now s floor latest version low sparse old new rs same was la
 version_damage told now s floor latest version low sparse old new rs same was last up high kind.Recipe n w damage = by_told told same was last
   where
     by_told : (told : Option Blobs) → now ≡ told → AreVersions told s floor version low sparse old new rs → IfSome told (λ m. IsLastDue m s floor latest) → IsSetDamage told s floor kind.Recipe n w
-    by_told None same was last = tt
+    by_told None same was last = version_why now s version low w damage.1
     by_told (Some m) same was last = (
       rs,
       record {

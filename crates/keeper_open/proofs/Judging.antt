@@ -17,7 +17,7 @@ use Rattle.container_store.proofs.TableLemmas.{has_widths}
 use Rattle.container_store.proofs.TableField.{table_field}
 use Rattle.keeper_open.specs.declared.notes.Chunk.{Chunk}
 use Rattle.keeper_open.specs.declared.notes.Place.{Place}
-use Rattle.keeper_open.specs.Damage.{ReadsRecipe, ReadsTable, IsDue, IsRowAt, IsNamed, IsInTable, IsBefore, FloorsBefore, RecipesBefore, TablesBefore, RowsBefore, AreRecipesGood, AreTablesGood, IsFirstDamage, IsDamageOf}
+use Rattle.keeper_open.specs.Damage.{ReadsRecipe, ReadsTable, IsDue, IsRowAt, IsNamed, IsInTable, IsBefore, FloorsBefore, RecipesBefore, TablesBefore, RowsBefore, AreRecipesGood, AreTablesGood, IsFirstDamage, IsOpeningWhy, IsDamageOf}
 use Rattle.keeper_open.specs.Reading.{SetRead, AreFloors, IsSetRead, AreSets, AreTables, all_recipes, rows_of, chunk_of, same_chunk, number_of, placed, AreFirst, IsNotAfter, some_has, left_of, IsFirstTable}
 use Rattle.keeper_open.proofs.Noting.{none_in, not_after_trans}
 use Rattle.keeper_open.proofs.Gathering.{at_below, in_place, place_of, recipe_read, set_at, all_in, mapped_in, floors_before}
@@ -198,9 +198,17 @@ module _ (m : Blobs) (ds : List SetRead) (read : AreSets (Some m) 0 ds) (count :
 
 -- the same of what the shelf tells
 
+table_why : (now : Option Blobs) (ids : List ℕ) (k : Kind) (n : ℕ) (w : Why) → IsFirstTable now ids k n w → IsOpeningWhy k w
+table_why now ids kind.Table n why.Absent first = tt
+table_why now ids kind.Table n why.Spelling first = tt
+table_why now ids kind.Table n other first = absurd first.1
+table_why now ids kind.Floor n w first = absurd first
+table_why now ids kind.Payload n w first = absurd first
+table_why now ids kind.Recipe n w first = absurd first
+
 pub table_damage_of : (told now : Option Blobs) (fs : List ℕ) (ds : List SetRead) (ids : List ℕ) → now ≡ told → AreFloors told 0 fs → length fs ≡ 256 → AreSets told 0 ds → length ds ≡ 256 → ids ≡ ids_in ds
     → (k : Kind) (n : ℕ) (w : Why) → IsFirstTable now ids k n w → IsDamageOf told k n w
-table_damage_of None now fs ds ids same floors all read count of k n w first = tt
+table_damage_of None now fs ds ids same floors all read count of k n w first = table_why now ids k n w first
 table_damage_of (Some m) now fs ds ids same floors all read count of k n w first =
     table_first m ds read count fs floors all k n w (subst (λ (l : List ℕ). IsFirstTable (Some m) l k n w) of (subst (λ (t : Option Blobs). IsFirstTable t ids k n w) same first))
 

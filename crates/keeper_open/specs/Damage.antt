@@ -1,6 +1,6 @@
 -- What opening reads, and what it finds damaged first. The order is that of the floors, the recipes, the tables and the
 -- rows: a place is damaged first where it is bad and all places before it are good.
-use Rattle.std.specs.Prelude.{◌≡◌, ◌⊎◌, ◌≤◌, ◌<◌, ◌+◌, ℕ, List, map, Contains, Option, Some, IsSome, IfSome, slice_get}
+use Rattle.std.specs.Prelude.{◌≡◌, ◌⊎◌, ◌≤◌, ◌<◌, ◌+◌, ℕ, List, map, Contains, Option, Some, IsSome, MatchOption, slice_get}
 use Rattle.std.specs.FinMap as fin
 use Rattle.vault_types.specs.declared.Kind.{Kind}
 use Rattle.vault_types.specs.declared.Kind.TheVariants as kind
@@ -118,5 +118,17 @@ IsFirstDamage m kind.Recipe number w = (s : ℕ) × (v : ℕ) × (number ≡ (re
 IsFirstDamage m kind.Table number w = AreRecipesGood m × TablesBefore m number × IsNamed m number × IsTableWhy (Some m) number w
 IsFirstDamage m kind.Payload number w = ⊥
 
+-- what opening may find wrong with a place, whatever the shelf tells
+abbrev pub IsOpeningWhy : Kind → Why → Type 0
+IsOpeningWhy kind.Floor why.Spelling = Unit {0}
+IsOpeningWhy kind.Recipe why.Absent = Unit {0}
+IsOpeningWhy kind.Recipe why.Spelling = Unit {0}
+IsOpeningWhy kind.Recipe (why.Lower before found) = found < before
+IsOpeningWhy kind.Recipe (why.BadRow row) = Unit {0}
+IsOpeningWhy kind.Table why.Absent = Unit {0}
+IsOpeningWhy kind.Table why.Spelling = Unit {0}
+IsOpeningWhy kind w = ⊥
+
+-- the first damage of the blobs; where they are not told, one that opening may find
 abbrev pub IsDamageOf : Option Blobs → Kind → ℕ → Why → Type 0
-IsDamageOf told kind number w = IfSome told (λ m. IsFirstDamage m kind number w)
+IsDamageOf told kind number w = MatchOption told (IsOpeningWhy kind w) (λ m. IsFirstDamage m kind number w)

@@ -1,5 +1,5 @@
 -- What has been read of a shelf, while it is opened.
-use Rattle.std.specs.Prelude.{◌≡◌, ◌⊎◌, ◌≤◌, ◌<◌, ◌+◌, ◌*◌, ◌^◌, ◌&&◌, Bool, ℕ, List, [], ◌∷◌, map, flat_map, ◌++◌, length, Contains, Option, Some, None, IsSome, IfSome, is_some, nat_le, nat_lt, ◌/◌, ◌%◌, false, nat_eq, option_map, unwrap_or, slice_get, find, ◌==◌, if◌then◌else◌}
+use Rattle.std.specs.Prelude.{◌≡◌, ◌⊎◌, ◌≤◌, ◌<◌, ◌+◌, ◌*◌, ◌^◌, ◌&&◌, Bool, ℕ, List, [], ◌∷◌, map, flat_map, ◌++◌, length, Contains, Option, Some, None, IsSome, IfSome, is_some, MatchOption, nat_le, nat_lt, ◌/◌, ◌%◌, false, nat_eq, option_map, unwrap_or, slice_get, find, ◌==◌, if◌then◌else◌}
 use Rattle.std.specs.Option.{option_map_or}
 use Rattle.std.specs.List.{AllByRecursion, last_or, list_any}
 use Rattle.std.specs.Map.{lookup}
@@ -27,7 +27,7 @@ use Rattle.keeper_open.specs.declared.notes.Chunk.{Chunk}
 use Rattle.keeper_open.specs.declared.notes.Place.{Place}
 use Rattle.keeper_open.specs.declared.notes.Notes.{Notes}
 use Rattle.keeper_open.specs.declared.reading.Found.{Found}
-use Rattle.keeper_open.specs.Damage.{ReadsRecipe, ReadsTable, IsDueFrom}
+use Rattle.keeper_open.specs.Damage.{ReadsRecipe, ReadsTable, IsDueFrom, IsOpeningWhy}
 
 -- floors
 
@@ -91,7 +91,7 @@ pub record IsSetFirst (m : Blobs) (s floor : ℕ) (rs : List Recipe) (number : �
   pub is : IsVersionDamage (Some m) s (floor + length rs) (last_next rs) kind.Recipe number w
 
 abbrev pub IsSetDamage : Option Blobs → ℕ → ℕ → Kind → ℕ → Why → Type 0
-IsSetDamage told s floor kind.Recipe number w = IfSome told (λ m. (rs : List Recipe) × IsSetFirst m s floor rs number w)
+IsSetDamage told s floor kind.Recipe number w = MatchOption told (IsOpeningWhy kind.Recipe w) (λ m. (rs : List Recipe) × IsSetFirst m s floor rs number w)
 IsSetDamage told s floor other number w = ⊥
 
 -- a set, with the recipes that were read of it

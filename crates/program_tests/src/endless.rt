@@ -20,7 +20,7 @@ impl Source for Endless {
     ghost told = { λ s. record { left = None; faults = 0 } };
 
     fn read(&mut self, buf: &mut [u8]) -> Result<usize, Failed> {
-        let most = buf.len().min(self.piece).max(1);
+        let most = buf.len().min(self.piece);
         let piece = &mut buf[..most];
         for byte in piece {
             *byte = self.byte;
@@ -75,14 +75,15 @@ const COMMANDS: &[&str] = &[
     "backup --chunk fixed --size 65536",
 ];
 
-const PIECES: &[usize] = &[4096, 65_536, 100_000];
+const PIECES: &[usize] = &[4096, 40_000, 65_536, 100_000];
 
-// Says where a backup takes more than the limit's two chunks of 65,536 bytes and one read, which is at most as many.
+// Says where a backup takes more than the limit's two chunks of 65,536 bytes and one read.
 fn each_backup_stops(alloc: Global) -> Result<(), Fail> {
     for words in COMMANDS {
         for piece in PIECES {
             let given = taken(alloc, &TOO_MANY, words, *piece)?;
-            if given > 3 * 65_536 {
+            let read = (*piece).min(65_536) as u64;
+            if given > 2 * 65_536 + read {
                 return Err(Fail::new(format!(in alloc; "at {words} {piece}: {given}")?));
             }
         }

@@ -1,5 +1,6 @@
 use Rattle.std.proofs.Common.{◌∙◌, sym, ap, subst, ◌++◌, ◌∷◌, [], List, ℕ, map, ◌≡◌, ◌*◌, ◌+◌, ◌^◌}
 use Rattle.vault_types.specs.declared.Row.{Row}
+use Rattle.vault_types.specs.declared.Name.{Name}
 use Rattle.vault_types.specs.Marks.{Mark, marks_of}
 use Rattle.vault_types.specs.Lists.{set_of}
 use Rattle.set_markers.specs.SetMarkers.{AreMarkersOfSets}
@@ -14,11 +15,11 @@ returns c = λ before below was.
     let r = c.args.recipe.now in
     let rows = c.as_slice-rows.ensures in
     let is : c.in_ok-ids.ids.items ≡ set_of (map (λ q. q.id) r.rows) = c.in_ok-ids.ensures ∙ ap (λ (l : List Row). set_of (map (λ q. q.id) l)) rows in
-    let number : c.from.result * 2 ^ 32 + c.from-2.result ≡ number_of r = λ i. c.from.ensures i * 2 ^ 32 + c.from-2.ensures i in
+    let number : c.recipe-number.result.number ≡ number_of r = ap (λ (n : Name). n.number) c.recipe-number.ensures in
     record {
       markers = subst (λ (ms : List Mark). AreMarkersOfSets c.commit.new.self ms) (ap (λ (l : List ℕ). marks_in before ++ marks_of r.set r.version l) (c.as_slice.ensures.value ∙ is) ∙ sym (marks_recipe before r))
           (c.commit.ensures.marks (marks_in before) (c.reserve.ensures.same (marks_in before) was.markers));
       ids = c.in_ok-add_ids.ensures (map (λ q. q.id) (rows_of before)) was.ids ∙ ap (λ (l : List ℕ). set_of (map (λ q. q.id) (rows_of before) ++ l)) (c.as_slice-2.ensures.value ∙ is) ∙ ids_recipe before r;
-      places = subst (λ (ps : List (Chunk × Place)). AreFirst c.add_rows.new.places.entries ps) (ap (λ (l : List Row). placed before ++ placed_rows (c.from.result * 2 ^ 32 + c.from-2.result) 0 l) rows ∙ ap (λ (n : ℕ). placed before ++ placed_rows n 0 r.rows) number ∙ sym (placed_recipe before r))
+      places = subst (λ (ps : List (Chunk × Place)). AreFirst c.add_rows.new.places.entries ps) (ap (λ (l : List Row). placed before ++ placed_rows c.recipe-number.result.number 0 l) rows ∙ ap (λ (n : ℕ). placed before ++ placed_rows n 0 r.rows) number ∙ sym (placed_recipe before r))
           (c.in_ok-add_rows.ensures (placed before) was.places (subst (λ (n : ℕ). ArePlacesBefore (placed before) (record { number = n; row = 0 })) (sym number) (all_before before (number_of r) below)));
     }

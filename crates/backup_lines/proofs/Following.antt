@@ -9,8 +9,8 @@ use Rattle.vault_types.specs.Events.{Core, after_refused}
 use Rattle.vault_types.specs.Tables.{Container}
 use Rattle.vault_traits.specs.Told.{SourceTold}
 use Rattle.keeper_catalog.specs.View.{View, Keeps}
-use Rattle.serial_backup.specs.Backup.{BacksUp, IsRefused, after_backup}
-use Rattle.serial_backup.specs.Going.{Began, IsUnderway, job_core}
+use Rattle.backup_jobs.specs.Backup.{BacksUp, IsRefused, after_backup}
+use Rattle.backup_jobs.specs.Going.{Began, IsUnderway, job_core}
 use Rattle.pin_laws.specs.Following.{Follows}
 use Rattle.pin_laws.proofs.Calls.{by_event}
 

@@ -12,8 +12,8 @@ use Rattle.vault_types.proofs.PartsLemmas.{parts-append}
 use Rattle.vault_traits.specs.Told.{SourceTold, Gives}
 use Rattle.stream_cutter.specs.Cutters.{IsCuttable}
 use Rattle.stream_cutter.proofs.Sizes.{stable}
-use Rattle.serial_backup.specs.Backup.{IsAtEnd, IsBackupFault}
-use Rattle.serial_backup.proofs.Limits.{too_many_bytes}
+use Rattle.backup_jobs.specs.Backup.{IsAtEnd, IsBackupFault}
+use Rattle.backup_jobs.proofs.Limits.{too_many_bytes}
 
 -- the settled chunks of a front are no more than the chunks of the whole
 settled_few : (c : Cutting) → IsCuttable c → (x y : List ℕ) → length (settled x c) ≤ length (cuts (x ++ y) c)

@@ -16,7 +16,7 @@ use Rattle.vault_traits.specs.Told.{SourceTold}
 use Rattle.keeper_catalog.specs.View.{View}
 use Rattle.script_laws.specs.Causes.{CausesRise, fits, counts_of_source}
 use Rattle.script_laws.specs.Table.{MeansLine}
-use Rattle.serial_backup.specs.Backup.{IsBackupFault, IsCauseOf}
+use Rattle.backup_jobs.specs.Backup.{IsBackupFault, IsCauseOf}
 
 pub own_number : (n : ℕ) → nat_eq n n ≡ true
 own_number n = search Rattle.std.proofs.Common.rules

@@ -1,11 +1,10 @@
 -- The end of a pass.
-use Rattle.std.proofs.Common.{◌≡◌, ℕ, ◌<◌, ◌≤◌, ◌^◌, List, ◌++◌, length, map, sym, ◌∙◌, ap, subst, arith, append_assoc}
+use Rattle.std.proofs.Common.{◌≡◌, ℕ, ◌≤◌, List, ◌++◌, length, map, sym, ◌∙◌, ap, subst, append_assoc}
 use Rattle.std.specs.Prelude.{option_to_list, Result, Ok, IfOk}
-use Rattle.std.proofs.lemmas.List.{map-append, length-map}
 use Rattle.vault_types.specs.declared.Fp.{Fp}
 use Rattle.vault_types.specs.declared.Fault.{Fault}
 use Rattle.vault_types.specs.Cuts.{cuts}
-use Rattle.vault_types.specs.Names.{named_chunk, fp}
+use Rattle.vault_types.specs.Names.{fp}
 use Rattle.vault_types.specs.Tables.{Container}
 use Rattle.vault_types.specs.Fill.{fill}
 use Rattle.vault_types.specs.Decide.{decide}
@@ -15,9 +14,10 @@ use Rattle.backup_pass.specs.declared.pass.Pass.{Pass}
 use Rattle.backup_pass.specs.declared.pass.Passed.{Passed}
 use Rattle.backup_pass.specs.Passing.{answers_in}
 use Rattle.keeper_catalog.specs.View.{View}
-use Rattle.serial_backup.specs.Going.{Began, AreNamed, AreNumbered, IsUnderway, IsFed, HasPassedAll, HasEnded, chunks_of, made, rules_of, len_of}
-use Rattle.serial_backup.proofs.Jobs.{named_then}
-use Rattle.serial_backup.proofs.Chunks.{made_numbered, made_few}
+use Rattle.backup_jobs.specs.declared.closing.Rest.{Rest}
+use Rattle.backup_jobs.specs.Going.{Began, AreNamed, AreNumbered, IsUnderway, HasEnded, chunks_of, rules_of, len_of}
+use Rattle.backup_jobs.proofs.Ends.{HasLeft, numbered_all, few_all, has_put_all}
+use Rattle.serial_backup.specs.Streaming.{IsFed, HasPassedAll}
 
 -- what the pass gives at its end
 abbrev pub Gave : Began → Pass → List ℕ → List Container → List Container → Passed → Type 0
@@ -44,32 +44,38 @@ passed_all b now pass lens read h out result p is gave =
     }
 
 module _ (b : Began) (before : View) (p : Passed) (out : List Container) (lens read : List ℕ) (h : HasPassedAll b before p out lens read) (full : List Container) (all : full ≡ out ++ option_to_list p.filled.last) where
-  all_of : h.containers ++ full ≡ (made b read).containers
-  all_of = ap (λ xs. h.containers ++ xs) all ∙ sym (append_assoc h.containers out (option_to_list p.filled.last)) ∙ h.filled.containers_are
+  abbrev rest : Rest
+  rest = record { rows = p.filled.rows; next = p.filled.next; containers = p.filled.containers; written = p.filled.written }
 
-  pub numbered_all : AreNumbered b.first (h.containers ++ full)
-  numbered_all = subst (AreNumbered b.first) (sym all_of) (made_numbered b read)
+  -- what is left to put
+  has_left : HasLeft b before h.containers full rest lens read
+  has_left = record {
+    underway = h.underway;
+    waits = h.waits;
+    named = h.named;
+    lens_are = h.lens_are;
+    cuttable = h.cuttable;
+    few = h.few;
+    filled = record {
+      containers_are = ap (λ xs. h.containers ++ xs) all ∙ sym (append_assoc h.containers out (option_to_list p.filled.last)) ∙ h.filled.containers_are;
+      rows_are = h.filled.rows_are;
+      next_is = h.filled.next_is;
+      count_is = h.filled.count_is;
+      written_is = h.filled.written_is;
+      count_exact = h.filled.count_exact;
+      written_exact = h.filled.written_exact;
+    };
+  }
 
-  pub few_all : length (h.containers ++ full) ≤ b.limits.chunks
-  few_all = let same : length (h.containers ++ full) ≡ length (made b read).containers = ap length all_of in omega (arith, same, made_few b read, h.few)
+  pub numbered_left : AreNumbered b.first (h.containers ++ full)
+  numbered_left = numbered_all b before h.containers full rest lens read has_left
 
-  small : length (chunks_of b.config read) < 2 ^ 32
-  small = omega (arith, h.underway.most, h.few, length-map (cuts read b.config.cutting) named_chunk)
+  pub few_left : length (h.containers ++ full) ≤ b.limits.chunks
+  few_left = few_all b before h.containers full rest lens read has_left
 
   pub has_ended : (now : View) (lens' : List ℕ) → IsUnderway b now (h.containers ++ full) → now.pending ≡ before.pending → AreNamed before now full → lens' ≡ lens ++ map len_of full
-      → HasEnded b now (record { rows = p.filled.rows; next = p.filled.next; whole = p.whole; containers = p.filled.containers; written = p.filled.written }) lens' read
+      → HasEnded b now (record { rest = rest; whole = p.whole }) lens' read
   has_ended now lens' under waits named more = record {
-    underway = subst (IsUnderway b now) all_of under;
-    waits = waits ∙ h.waits;
-    named = subst (AreNamed b.keeper now) all_of (named_then b.keeper before now h.containers full h.named named);
-    is = record {
-      cuttable = h.cuttable;
-      few = h.few;
-      rows = h.filled.rows_are;
-      whole = h.whole;
-      next = h.filled.next_is;
-      containers = h.filled.count_exact small;
-      written = h.filled.written_exact small;
-      lens_are = more ∙ ap (λ xs. xs ++ map len_of full) h.lens_are ∙ sym (map-append len_of h.containers full) ∙ ap (λ xs. map len_of xs) all_of;
-    };
+    put = has_put_all b before h.containers full rest lens read has_left now lens' under waits named more;
+    whole = h.whole;
   }

@@ -5,18 +5,18 @@ use Rattle.std.specs.Option.{option_map}
 use Rattle.std.proofs.lemmas.List.{map-append}
 use Rattle.vault_types.specs.declared.Fault.{Fault}
 use Rattle.vault_types.specs.declared.Fault.TheVariants as fault
-use Rattle.vault_types.specs.declared.Recipe.{Recipe}
-use Rattle.vault_types.specs.declared.Answer.{Answer}
 use Rattle.vault_types.specs.Tables.{Container}
 use Rattle.vault_traits.specs.Told.{SourceTold, Gives}
 use Rattle.vault_traits.specs.Counts.{Rose}
 use Rattle.backup_pass.specs.declared.pass.Pass.{Pass}
 use Rattle.backup_pass.specs.Passing.{HasPassed, index_in}
 use Rattle.keeper_catalog.specs.View.{View}
-use Rattle.serial_backup.specs.Backup.{IsBackupFault, IsAtEnd}
-use Rattle.serial_backup.specs.declared.ending.Ended.{Ended}
-use Rattle.serial_backup.specs.Going.{HasEnded, HasConcluded, IsReady, made, AreNamed, Began, IsUnderway, IsPutStop, IsPutFault, IsFed, IsHalted, IsTooMany, IsTooManyInAll, IsGoing, HasGone, IsStopped, rules_of, len_of}
-use Rattle.serial_backup.proofs.Jobs.{named_then, rose_from}
+use Rattle.backup_jobs.specs.Backup.{IsBackupFault, IsAtEnd}
+use Rattle.backup_jobs.specs.declared.closing.Ended.{Ended}
+use Rattle.backup_jobs.specs.Going.{Began, AreNamed, IsUnderway, IsPutStop, IsStopped, IsOver, HasEnded, rules_of, len_of}
+use Rattle.backup_jobs.proofs.Jobs.{named_then, rose_from}
+use Rattle.backup_jobs.proofs.Causes.{put_is_cause}
+use Rattle.serial_backup.specs.Streaming.{IsFed, IsHalted, IsTooMany, IsTooManyInAll, IsGoing, HasGone}
 
 pub passed_none : (b : Began) (now : View) (p : Pass) (lens read : List ℕ) (h : IsFed b now p lens read) (none : List Container) → none ≡ [] → HasPassed p (rules_of b) b.limits.chunks b.first read (h.containers ++ none)
 passed_none b now p lens read h none is = subst (HasPassed p (rules_of b) b.limits.chunks b.first read) (sym (ap (λ xs. h.containers ++ xs) is ∙ append-nil h.containers)) h.passed
@@ -44,22 +44,7 @@ pub pass_halts : (b : Began) (now : View) (containers : List Container) (Why : F
 pass_halts b now containers Why (Ok x) under h = tt
 pass_halts b now containers Why (Err f) under h = record { containers = containers; underway = under; cause = inr h }
 
--- what stopped a job is a cause of the backup's
-pub put_is_cause : (b : Began) (now : View) (to : SourceTold) (read : List ℕ) (f : Fault) → IsPutFault b.keeper.told.faults now.told.faults f → IsBackupFault b.config b.limits b.keeper.told.faults now.told.faults b.source to read f
-put_is_cause b now to read fault.Memory h = tt
-put_is_cause b now to read (fault.StoreFault n) h = h
-put_is_cause b now to read fault.Usage h = h
-put_is_cause b now to read (fault.NotKept s v floor latest) h = absurd h
-put_is_cause b now to read (fault.ReadFault n) h = absurd h
-put_is_cause b now to read (fault.WriteFault n) h = absurd h
-put_is_cause b now to read (fault.Damaged kind number why) h = absurd h
-put_is_cause b now to read (fault.TooMany limit) h = absurd h
-put_is_cause b now to read (fault.LastVersion s through latest) h = absurd h
-put_is_cause b now to read (fault.PlaceFault n) h = absurd h
-put_is_cause b now to read (fault.BadLine n) h = absurd h
-put_is_cause b now to read (fault.ScriptTooLong limit) h = absurd h
-put_is_cause b now to read (fault.Full s latest next) h = absurd h
-
+-- what stopped the pass is a cause of the backup's
 settled_is_cause : (b : Began) (now : View) (to : SourceTold) (read : List ℕ) (f : Fault) → IsTooMany b read f → IsBackupFault b.config b.limits b.keeper.told.faults now.told.faults b.source to read f
 settled_is_cause b now to read fault.Memory h = tt
 settled_is_cause b now to read (fault.TooMany limit) h = (h.0, inl h.1)
@@ -97,10 +82,6 @@ gives_more a b c x y one two = one ∙ ap (λ o. option_map (λ z. x ++ z) o) tw
     at : (c : Option (List ℕ)) → option_map (λ z. x ++ z) (option_map (λ z. y ++ z) c) ≡ option_map (λ z. (x ++ y) ++ z) c
     at None = refl
     at (Some z) = ap (λ l. Some l) (sym (append_assoc x y z))
-
-pub gives_none : (a : Option (List ℕ)) → Gives a a []
-gives_none None = refl
-gives_none (Some x) = refl
 
 none_behind : (x y : List ℕ) → x ++ y ≡ [] → y ≡ []
 none_behind x [] is = refl
@@ -173,35 +154,8 @@ many_stop b now to p lens read h limit is many = record {
 pub going_from : (b : Began) (now : View) (to : SourceTold) (p : Pass) (lens : List ℕ) → lens ≡ [] → IsGoing b now to p [] [] → IsGoing b now to p lens []
 going_from b now to p lens none h = subst (λ (l : List ℕ). IsGoing b now to p l []) (sym none) h
 
--- the pass has ended
-pub ended_as : (b : Began) (now : View) (read lens slice : List ℕ) (result : Result Ended Fault) (e : Ended) → result ≡ Ok e → slice ≡ lens → IfOk result (λ e. HasEnded b now e lens read) → HasEnded b now e slice read
-ended_as b now read lens slice result e is same h =
-    subst (λ (l : List ℕ). HasEnded b now e l read) (sym same) (subst (λ (r : Result Ended Fault). IfOk r (λ e. HasEnded b now e lens read)) is h)
-
-module _ (b : Began) (before now : View) (to : SourceTold) (pass : Pass) (lens slice read : List ℕ) (h : IsGoing b before to pass lens read) (end : IsAtEnd to) (e : Ended) (ended : HasEnded b now e slice read) where
-  -- the recipe is ready
-  pub concludes : (p : Recipe × Answer) → IsReady b now read p → HasConcluded b now to p
-  concludes p ready = record {
-    read = read;
-    given = h.given;
-    within = h.within;
-    source_later = h.source_later;
-    end = end;
-    few = ended.is.few;
-    underway = ended.underway;
-    waits = ended.waits;
-    named = ended.named;
-    ready = ready;
-  }
-
-  -- there was no memory for it
-  pub memory_stops : IsStopped b now to fault.Memory
-  memory_stops = record {
-    read = read;
-    given = h.given;
-    within = h.within;
-    source_later = h.source_later;
-    containers = (made b read).containers;
-    underway = ended.underway;
-    cause = tt;
-  }
+-- the pass has ended, or stopped
+pub ends_over : (b : Began) (before now : View) (to : SourceTold) (pass : Pass) (lens lens' read : List ℕ) (h : IsGoing b before to pass lens read) → IsAtEnd to → (r : Result Ended Fault)
+    → IfOk r (λ e. HasEnded b now e lens' read) → IfErr r (IsHalted b now (IsTooManyInAll b read)) → IsOver b now to lens' r
+ends_over b before now to pass lens lens' read h end (Ok e) ok err = (record { read = read; given = h.given; source_later = h.source_later; end = end; ended = ok }, tt)
+ends_over b before now to pass lens lens' read h end (Err f) ok err = (tt, end_stops b before now to to pass lens read h end {T = Ended} (Err f) err)

@@ -1,9 +1,10 @@
 // The end of the stream.
 ghost use Rattle.std.specs.Prelude.{◌≡◌, List, ℕ, OnOk, IfOk, IfErr, option_to_list, ◌++◌};
 ghost use Rattle.backup_pass.specs.Passing.{index_in};
-ghost use Rattle.serial_backup.specs.Going.{Began, IsFed, IsHalted, IsTooManyInAll, HasPassedAll, HasEnded};
+ghost use Rattle.backup_jobs.specs.Going.{Began, HasEnded};
+ghost use Rattle.serial_backup.specs.Streaming.{IsFed, IsHalted, IsTooManyInAll, HasPassedAll};
 
-use crate::putting::put_all;
+use backup_jobs::{Ended, Rest, put_all};
 use backup_pass::{Pass, Passed};
 use container_fill::{Filled, Unsealed};
 use container_store::Sealed;
@@ -11,19 +12,7 @@ use fp_index::Index;
 use keeper_core::Keeper;
 use std::alloc::Global;
 use vault_traits::Shelf;
-use vault_types::list::ListOf;
-use vault_types::{Fault, Fp, Id, Memory, Row};
-
-// What a pass came to: the version's rows, the next free id, the SHA-1 of the stream, how many new containers there are
-// and how many bytes they have.
-#[derive(Drop)]
-pub(crate) struct Ended {
-    pub(crate) rows: ListOf<Row>,
-    pub(crate) next: Id,
-    pub(crate) whole: Fp,
-    pub(crate) containers: u64,
-    pub(crate) written: u64,
-}
+use vault_types::{Fault, Memory};
 
 fn push_last(full: &mut Vec<Sealed>, last: Option<Unsealed>) -> Result<(), Memory>
     ensures { OnOk result (full.new.items ≡ full.old.items ++ option_to_list last) }
@@ -60,13 +49,13 @@ fn put_rest<S: Shelf>(
     let mut full = full;
     push_last(&mut full, last)?;
     put_all(alloc, keeper, full, lens)?;
-    Ok(Ended {
+    let rest = Rest {
         rows,
         next,
-        whole,
         containers,
         written,
-    })
+    };
+    Ok(Ended { rest, whole })
 }
 
 // Takes the end of the stream, and puts the containers that are left. The index comes back.

@@ -1,56 +1,41 @@
 //! A backup into a store, on one thread.
 #![tactic(auto)]
 
-mod closing;
 mod ending;
-mod putting;
 mod reading;
-mod sparse;
 
-ghost use Rattle.std.specs.Prelude.{◌≡◌, ◌≤◌, None, [], IfOk, IfErr};
+ghost use Rattle.std.specs.Prelude.{◌≡◌, ◌≤◌, None, []};
 ghost use Rattle.backup_pass.specs.Passing.{IsInRange, index_in};
-ghost use Rattle.serial_backup.specs.Backup.{BacksUp};
-ghost use Rattle.serial_backup.specs.Going.{Began, IsJobOf, IsGoing, HasConcluded, IsStopped};
+ghost use Rattle.backup_jobs.specs.Backup.{BacksUp};
+ghost use Rattle.backup_jobs.specs.Going.{Began, IsOver};
+ghost use Rattle.serial_backup.specs.Streaming.{IsGoing};
 
-use crate::closing::{Job, conclude};
 use crate::ending::end_pass;
 use crate::reading::read_all;
+use backup_jobs::{Ended, Opened, close_job, open_job};
 use backup_pass::Pass;
 use fp_index::Index;
-use keeper_core::{Begun, Keeper};
+use keeper_core::Keeper;
 use std::alloc::Global;
 use vault_traits::{Shelf, Source};
-use vault_types::{Answer, Fault, JobConfig, Limits, Memory, Recipe, Set};
+use vault_types::{Answer, Fault, JobConfig, Limits, Set};
 
-// Reads the stream through the pass, and puts its containers; the recipe is made, and the index comes back.
+// Reads the stream through the pass, and puts its containers. The index comes back.
 fn run<S: Shelf, I: Source>(
     alloc: Global,
     keeper: &mut Keeper<S>,
     source: &mut I,
     pass: Pass,
-    job: &Job,
-) -> (Index, Result<(Recipe, Answer), Fault>)
-    requires { (b : Began) × IsJobOf b job.now × IsGoing b keeper.old (I.told source.old) pass [] [] }
+    lens: &mut Vec<u32>,
+) -> (Index, Result<Ended, Fault>)
+    requires { (b : Began) × IsGoing b keeper.old (I.told source.old) pass lens.old.items [] }
     ensures index { result.0 ≡ index_in pass }
-    ensures ok { (b : Began) → IsJobOf b job.now → IsGoing b keeper.old (I.told source.old) pass [] []
-        → IfOk result.1 (HasConcluded b keeper.new (I.told source.new)) }
-    ensures err { (b : Began) → IsJobOf b job.now → IsGoing b keeper.old (I.told source.old) pass [] []
-        → IfErr result.1 (IsStopped b keeper.new (I.told source.new)) }
+    ensures over { (b : Began) → IsGoing b keeper.old (I.told source.old) pass lens.old.items [] → IsOver b keeper.new (I.told source.new) lens.new.items result.1 }
 {
     let mut pass = pass;
-    let mut lens = Vec::new(alloc);
-    match read_all(alloc, keeper, source, &mut pass, &mut lens) {
+    match read_all(alloc, keeper, source, &mut pass, lens) {
         Err(fault) => (pass.end(), Err(fault)),
-        Ok(()) => {
-            let (index, ended) = end_pass(alloc, keeper, pass, &mut lens);
-            match ended {
-                Err(fault) => (index, Err(fault)),
-                Ok(ended) => match conclude(alloc, keeper, job, ended, lens.as_slice()) {
-                    Ok(concluded) => (index, Ok(concluded)),
-                    Err(Memory) => (index, Err(Fault::Memory)),
-                },
-            }
-        }
+        Ok(()) => end_pass(alloc, keeper, pass, lens),
     }
 }
 
@@ -73,37 +58,10 @@ pub fn backup_plain<S: Shelf, I: Source>(
     requires last { limits.now.last ≤ 4294967294 }
     ensures { BacksUp set config.now limits.now keeper.old keeper.new (I.told source.old) (I.told source.new) result }
 {
-    if keeper.full(set, limits) {
-        return Err(Fault::Full {
-            set,
-            latest: keeper.latest(set),
-            next: keeper.next_id(),
-        });
-    }
-    let begun = keeper.begin(alloc, set)?;
-    let Begun {
-        version,
-        next,
-        sparse,
-        index,
-        ..
-    } = begun;
-    let pass = Pass::new(alloc, index, sparse, next, *config, limits.chunks);
-    let job = Job {
-        set,
-        version,
-        first: next,
-        config: *config,
-    };
-    let (index, concluded) = run(alloc, keeper, source, pass, &job);
-    match concluded {
-        Err(fault) => {
-            keeper.abort(index);
-            Err(fault)
-        }
-        Ok((recipe, answer)) => {
-            keeper.commit(alloc, index, recipe)?;
-            Ok(answer)
-        }
-    }
+    let opened = open_job(alloc, keeper, set, config, limits)?;
+    let Opened { job, sparse, index } = opened;
+    let pass = Pass::new(alloc, index, sparse, job.first, *config, limits.chunks);
+    let mut lens = Vec::new(alloc);
+    let (index, ended) = run(alloc, keeper, source, pass, &mut lens);
+    close_job(alloc, keeper, &job, index, ended, lens.as_slice())
 }

@@ -1,10 +1,11 @@
 // The stream is read piece by piece, and each goes through the pass.
 ghost use Rattle.std.specs.Prelude.{◌≡◌, ◌<◌, ◌≤◌, ◌*◌, List, ℕ, OnOk, IfOk, IfErr, map, length, [], ◌∷◌, ◌++◌};
 ghost use Rattle.backup_pass.specs.Passing.{index_in};
-ghost use Rattle.serial_backup.specs.Backup.{IsAtEnd};
-ghost use Rattle.serial_backup.specs.Going.{Began, IsFed, IsHalted, IsTooMany, IsGoing, HasGone, IsStopped};
+ghost use Rattle.backup_jobs.specs.Backup.{IsAtEnd};
+ghost use Rattle.backup_jobs.specs.Going.{Began, IsStopped};
+ghost use Rattle.serial_backup.specs.Streaming.{IsFed, IsHalted, IsTooMany, IsGoing, HasGone};
 
-use crate::putting::put_all;
+use backup_jobs::put_all;
 use backup_pass::Pass;
 use keeper_core::Keeper;
 use std::alloc::Global;

@@ -2,7 +2,8 @@ use Rattle.std.proofs.Common.{subst}
 use Rattle.std.specs.Prelude.{Result, IfErr}
 use Rattle.vault_types.specs.declared.Fault.{Fault}
 use Rattle.backup_pass.specs.declared.pass.Passed.{Passed}
-use Rattle.serial_backup.specs.Going.{IsTooManyInAll, IsHalted, rules_of}
+use Rattle.backup_jobs.specs.Going.{rules_of}
+use Rattle.serial_backup.specs.Streaming.{IsTooManyInAll, IsHalted}
 use Rattle.serial_backup.proofs.Feeding.{passed_none, pass_halts}
 use Rattle.serial_backup.proofs.Ends.{passed_all}
 use Rattle.serial_backup.proofs.ending.end_pass.Goals as goal

@@ -1,13 +1,14 @@
-use Rattle.serial_backup.specs.Going.{IsTooManyInAll, IsPutStop}
-use Rattle.serial_backup.proofs.Jobs.{stopped_again, stopped_by_memory}
+use Rattle.backup_jobs.specs.Going.{IsPutStop}
+use Rattle.serial_backup.specs.Streaming.{IsTooManyInAll}
+use Rattle.backup_jobs.proofs.Jobs.{stopped_again, stopped_by_memory}
 use Rattle.serial_backup.proofs.Feeding.{put_halts}
-use Rattle.serial_backup.proofs.Ends.{numbered_all, few_all, has_ended}
+use Rattle.serial_backup.proofs.Ends.{numbered_left, few_left, has_ended}
 use Rattle.serial_backup.proofs.ending.put_rest.Goals as goal
 
 pub put_all-requires : goal.put_all-requires
 put_all-requires g c =
     let h = c.requires.2 in
-    (c.requires.0, h.containers, h.underway, numbered_all _ _ _ _ _ _ h _ c.in_ok-push_last.ensures, few_all _ _ _ _ _ _ h _ c.in_ok-push_last.ensures)
+    (c.requires.0, h.containers, h.underway, numbered_left _ _ _ _ _ _ h _ c.in_ok-push_last.ensures, few_left _ _ _ _ _ _ h _ c.in_ok-push_last.ensures)
 
 pub returns-in_err-push_last-clause-err : goal.returns-in_err-push_last-clause-err
 returns-in_err-push_last-clause-err g c b read h =
@@ -17,9 +18,9 @@ pub returns-in_err-put_all-clause-err : goal.returns-in_err-put_all-clause-err
 returns-in_err-put_all-clause-err g c b read h =
     put_halts b _ (IsTooManyInAll b read) c.from_residual-in_err-put_all.result
     (stopped_again (IsPutStop b c.put_all.new.keeper) c.from_residual-in_err-put_all.result c.in_err-put_all.field-0.0 c.from_residual-in_err-put_all.ensures.1
-    (c.in_err-put_all.ensures.err b h.containers (numbered_all _ _ _ _ _ _ h _ c.in_ok-push_last.ensures) (few_all _ _ _ _ _ _ h _ c.in_ok-push_last.ensures) h.underway))
+    (c.in_err-put_all.ensures.err b h.containers (numbered_left _ _ _ _ _ _ h _ c.in_ok-push_last.ensures) (few_left _ _ _ _ _ _ h _ c.in_ok-push_last.ensures) h.underway))
 
 pub returns-clause-ok : goal.returns-clause-ok
 returns-clause-ok g c b read h =
     has_ended _ _ _ _ _ _ h _ c.in_ok-push_last.ensures _ _
-    (c.in_ok-put_all.ensures.ok b h.containers (numbered_all _ _ _ _ _ _ h _ c.in_ok-push_last.ensures) (few_all _ _ _ _ _ _ h _ c.in_ok-push_last.ensures) h.underway) c.in_ok-put_all.ensures.waits c.in_ok-put_all.ensures.named c.in_ok-put_all.ensures.lens
+    (c.in_ok-put_all.ensures.ok b h.containers (numbered_left _ _ _ _ _ _ h _ c.in_ok-push_last.ensures) (few_left _ _ _ _ _ _ h _ c.in_ok-push_last.ensures) h.underway) c.in_ok-put_all.ensures.waits c.in_ok-put_all.ensures.named c.in_ok-put_all.ensures.lens

@@ -1,7 +1,7 @@
 use Rattle.std.proofs.Common.{sym, ◌++◌, ◌≤◌, length, take, arith}
 use Rattle.std.proofs.lemmas.List.{length-take-le}
-use Rattle.serial_backup.specs.Going.{IsTooMany, IsHalted}
-use Rattle.serial_backup.proofs.Jobs.{stopped_again}
+use Rattle.serial_backup.specs.Streaming.{IsTooMany, IsHalted}
+use Rattle.backup_jobs.proofs.Jobs.{stopped_again}
 use Rattle.serial_backup.proofs.Feeding.{feed_stops, feed_goes}
 use Rattle.serial_backup.proofs.reading.advance.Goals as goal
 

@@ -1,8 +1,9 @@
 use Rattle.std.proofs.Common.{◌++◌}
 use Rattle.backup_pass.specs.Passing.{HasPassed}
-use Rattle.serial_backup.specs.Going.{IsTooMany, rules_of}
-use Rattle.serial_backup.proofs.Jobs.{stopped_again}
-use Rattle.serial_backup.proofs.Chunks.{numbered_passed, few_passed}
+use Rattle.backup_jobs.specs.Going.{rules_of}
+use Rattle.serial_backup.specs.Streaming.{IsTooMany}
+use Rattle.backup_jobs.proofs.Jobs.{stopped_again}
+use Rattle.serial_backup.proofs.Passes.{numbered_passed, few_passed}
 use Rattle.serial_backup.proofs.Feeding.{passed_none, fed_ok, put_halts, pass_halts}
 use Rattle.serial_backup.proofs.reading.feed.Goals as goal
 

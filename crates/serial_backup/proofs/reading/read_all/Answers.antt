@@ -1,6 +1,6 @@
 use Rattle.std.proofs.Common.{◌≡◌, ◌∙◌, ◌++◌, ◌≤◌, ◌<◌, ◌*◌, length, arith, length-append}
-use Rattle.serial_backup.specs.Going.{IsStopped}
-use Rattle.serial_backup.proofs.Jobs.{stopped_again}
+use Rattle.backup_jobs.specs.Going.{IsStopped}
+use Rattle.backup_jobs.proofs.Jobs.{stopped_again}
 use Rattle.serial_backup.proofs.Feeding.{many_stop}
 use Rattle.serial_backup.proofs.reading.read_all.Goals as goal
 

@@ -1,6 +1,7 @@
 use Rattle.std.proofs.Common.{◌≡◌, ◌+◌, ◌-◌, List, ℕ, [], length}
 use Rattle.backup_pass.specs.Passing.{index_in}
-use Rattle.serial_backup.specs.Going.{Began, IsGoing}
+use Rattle.backup_jobs.specs.Going.{Began}
+use Rattle.serial_backup.specs.Streaming.{IsGoing}
 use Rattle.serial_backup.proofs.reading.read_all.Given as goal
 
 abbrev pub decreases-loop-count : goal.decreases-loop-count

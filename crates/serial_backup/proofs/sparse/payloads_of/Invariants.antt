@@ -1,8 +1,0 @@
-use Rattle.std.proofs.Common.{◌≡◌, map, take}
-use Rattle.vault_types.specs.Events.{Core}
-use Rattle.keeper_catalog.specs.View.{Keeps}
-use Rattle.serial_backup.specs.Going.{len_at}
-use Rattle.serial_backup.proofs.sparse.payloads_of.Given as goal
-
-abbrev pub invariant-loop-id : goal.invariant-loop-id
-invariant-loop-id g l = (K : Core) → Keeps l.keeper K → l.payloads.items ≡ map (λ c. (c, len_at K.state.containers l.first l.lens c)) (take l.id-index l.ids)

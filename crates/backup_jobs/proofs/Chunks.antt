@@ -20,7 +20,7 @@ use Rattle.vault_types.proofs.BackupLemmas.{joined-pieces}
 use Rattle.vault_types.proofs.RestoreLemmas.{fps-decide}
 use Rattle.fp_index.specs.Index.{found_in}
 use Rattle.container_fill.proofs.PlaceLemmas.{containers-len}
-use Rattle.stream_cutter.specs.Cutters.{IsCuttable}
+use Rattle.vault_types.specs.JobRanges.{IsCuttable}
 use Rattle.stream_cutter.proofs.Sizes.{settled_chunks, last_chunks}
 use Rattle.backup_jobs.specs.Going.{Began, AreNumbered, rules_of, chunks_of, made}
 

@@ -17,15 +17,15 @@ use Rattle.vault_types.specs.Blobs.{recipe_bytes}
 use Rattle.vault_types.specs.Tables.{Container}
 use Rattle.vault_types.specs.State.{State, IsValid, is_full, latest_of, next_of, next_in}
 use Rattle.vault_types.specs.Backup.{backup, after_filling, version_from}
-use Rattle.vault_types.specs.Shelf.{Blobs, recipe_name, Stands}
+use Rattle.vault_types.specs.Shelf.{Blobs, recipe_name, Stands, Has}
 use Rattle.vault_types.specs.Events.{Core, Change, Job, IsNear, IsCore, IsChange, CanCommit, after_commit, after_refused, after_abort, after_begin, commit_change, committed}
 use Rattle.vault_traits.specs.Told.{ShelfTold, SourceTold}
 use Rattle.vault_traits.specs.Crash.{LeavesNowIfTold, LeavesOnlyIfTold}
 use Rattle.vault_traits.proofs.Moments.{then, ends, more, more_now, stays}
-use Rattle.blob_parts.specs.Causes.{Has, IsCause, IsUndamaged}
+use Rattle.vault_traits.specs.Causes.{IsCause, IsUndamaged}
 use Rattle.commit_laws.specs.Laws.{AreStraysLeft}
 use Rattle.commit_laws.proofs.Committing.{commit_core}
-use Rattle.keeper_parts.specs.Recipes.{KeepsRecipes}
+use Rattle.vault_types.specs.RecipeForms.{KeepsRecipes}
 use Rattle.keeper_catalog.specs.declared.JobInfo.{JobInfo}
 use Rattle.keeper_catalog.specs.View.{View, Keeps, HasCore, job_info}
 use Rattle.keeper_jobs.specs.Jobs.{version_by}

@@ -31,7 +31,7 @@ use Rattle.vault_types.proofs.SetLemmas.{IsAscending-set_of}
 use Rattle.fp_index.specs.Index.{found_in}
 use Rattle.har_monitor.proofs.Callers.{sparse_few, sparse_ascending, sparse_used}
 use Rattle.container_fill.proofs.SumLemmas.{fp-is_fp}
-use Rattle.stream_cutter.specs.Cutters.{IsCuttable}
+use Rattle.vault_types.specs.JobRanges.{IsCuttable}
 use Rattle.backup_pass.proofs.Decisions.{decide_in_turn}
 use Rattle.commit_laws.proofs.Listing.{found_is}
 use Rattle.keeper_catalog.specs.View.{View, Keeps}

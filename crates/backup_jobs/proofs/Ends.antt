@@ -6,7 +6,7 @@ use Rattle.vault_types.specs.Cuts.{cuts}
 use Rattle.vault_types.specs.Names.{named_chunk}
 use Rattle.vault_types.specs.Tables.{Container}
 use Rattle.container_fill.specs.Filling.{IsFilledBy}
-use Rattle.stream_cutter.specs.Cutters.{IsCuttable}
+use Rattle.vault_types.specs.JobRanges.{IsCuttable}
 use Rattle.keeper_catalog.specs.View.{View}
 use Rattle.backup_jobs.specs.declared.closing.Rest.{Rest}
 use Rattle.backup_jobs.specs.Going.{Began, AreNamed, AreNumbered, IsUnderway, HasPutAll, chunks_of, made, len_of}

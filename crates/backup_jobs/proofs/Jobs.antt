@@ -13,7 +13,7 @@ use Rattle.vault_types.specs.Events.{Core, Change, IsContainerName, IsNear, afte
 use Rattle.vault_traits.specs.Counts.{Rose}
 use Rattle.vault_traits.specs.Crash.{LeavesNowIfTold, LeavesOnlyIfTold}
 use Rattle.vault_traits.proofs.Moments.{then, ends, more}
-use Rattle.blob_parts.specs.Causes.{IsCause, IsUndamaged}
+use Rattle.vault_traits.specs.Causes.{IsCause, IsUndamaged}
 use Rattle.keeper_catalog.specs.declared.JobInfo.{JobInfo}
 use Rattle.keeper_catalog.specs.View.{View, Keeps}
 use Rattle.keeper_jobs.specs.Jobs.{names_of}

@@ -4,7 +4,7 @@ use Rattle.std.specs.List.{concat}
 use Rattle.vault_types.specs.declared.Cutting.{Cutting}
 use Rattle.vault_types.specs.Cuts.{cuts}
 use Rattle.vault_types.proofs.BackupLemmas.{concat-cuts}
-use Rattle.stream_cutter.specs.Cutters.{IsCuttable}
+use Rattle.vault_types.specs.JobRanges.{IsCuttable}
 use Rattle.backup_jobs.proofs.Chunks.{AreChunks, chunk_sizes, cuts_are_chunks}
 
 bytes_within : (ys : List (List ℕ)) → AreChunks ys → length (concat ys) ≤ 65536 * length ys

@@ -9,12 +9,11 @@ use Rattle.vault_types.specs.Blobs.{recipe_bytes, recipe_bytes_2}
 use Rattle.vault_types.specs.Bytes.{row_bytes}
 use Rattle.vault_types.specs.Tables.{Container}
 use Rattle.vault_types.specs.State.{State, KeptVersion, IsValid, latest_of, length_of, version_of, recipe_of}
-use Rattle.vault_types.specs.Shelf.{Blobs, blob_at, recipe_name}
+use Rattle.vault_types.specs.Shelf.{Blobs, blob_at, recipe_name, Has}
 use Rattle.vault_types.specs.Events.{Core, Job, CanCommit, committed, version_in_recipe}
 use Rattle.vault_types.proofs.GrowLemmas.{version_of-new}
-use Rattle.blob_parts.specs.Causes.{Has}
-use Rattle.keeper_parts.specs.Recipes.{IsSecond}
-use Rattle.keeper_parts.proofs.Growing.{floor_pos}
+use Rattle.vault_types.specs.RecipeForms.{IsSecond}
+use Rattle.state_laws.proofs.Growing.{floor_pos}
 use Rattle.keeper_jobs.specs.Jobs.{version_by}
 
 given_whole : (o : Option Fp) (other : Fp) → IsSome o → o ≡ Some (unwrap_or o other)

@@ -16,7 +16,7 @@ use Rattle.vault_types.specs.Events.{Core, Change, IsNear, after_refused}
 use Rattle.vault_traits.specs.Told.{SourceTold, Gives}
 use Rattle.vault_traits.specs.Crash.{LeavesNowIfTold, LeavesOnlyIfTold}
 use Rattle.vault_traits.specs.Counts.{Rose}
-use Rattle.keeper_parts.specs.Recipes.{IsSecond, KeepsRecipes}
+use Rattle.vault_types.specs.RecipeForms.{IsSecond, KeepsRecipes}
 use Rattle.keeper_catalog.specs.View.{View, Keeps}
 use Rattle.keeper_core.specs.Calls.{IsShelfFault}
 

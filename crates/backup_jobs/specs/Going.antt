@@ -23,8 +23,8 @@ use Rattle.vault_traits.specs.Crash.{LeavesNowIfTold, LeavesOnlyIfTold}
 use Rattle.fp_index.specs.Index.{found_in, IsIndexOf}
 use Rattle.rewrite_stage.specs.declared.Decided.{Decided}
 use Rattle.container_fill.specs.Filling.{Filling, HasFilled}
-use Rattle.stream_cutter.specs.Cutters.{IsCuttable}
-use Rattle.keeper_parts.specs.Recipes.{KeepsRecipes}
+use Rattle.vault_types.specs.JobRanges.{IsCuttable}
+use Rattle.vault_types.specs.RecipeForms.{KeepsRecipes}
 use Rattle.keeper_catalog.specs.View.{View, Keeps, HasCore}
 use Rattle.keeper_jobs.specs.Jobs.{version_by}
 use Rattle.backup_jobs.specs.declared.closing.Rest.{Rest}

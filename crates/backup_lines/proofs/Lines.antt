@@ -21,15 +21,15 @@ use Rattle.vault_traits.specs.Counts.{Rose}
 use Rattle.vault_traits.specs.Crash.{History, LeavesNowIfTold, LeavesOnlyIfTold}
 use Rattle.vault_traits.specs.Told.{SourceTold}
 use Rattle.vault_traits.proofs.Moments.{more, more_now}
-use Rattle.stream_cutter.specs.Cutters.{IsCuttable}
+use Rattle.vault_types.specs.JobRanges.{IsCuttable}
 use Rattle.keeper_catalog.specs.View.{View, Keeps, HasCore}
 use Rattle.keeper_core.specs.Calls.{IsShelfFault}
-use Rattle.script_laws.specs.Calls.{BacksUpLine, IsTooMany}
-use Rattle.script_laws.specs.Causes.{CausesRise, counts_of_source, fits}
-use Rattle.script_laws.specs.Complete.{IsWell, IsWellAnswered}
-use Rattle.script_laws.specs.Steps.{BearsStep, IsNextOther, StandsWith, StepsOn}
-use Rattle.script_laws.specs.Table.{MeansLine}
-use Rattle.script_laws.specs.Recipes.{KeepsForms}
+use Rattle.store_model.specs.Calls.{BacksUpLine, IsTooMany}
+use Rattle.store_model.specs.Causes.{CausesRise, counts_of_source, fits}
+use Rattle.store_model.specs.Complete.{IsWell, IsWellAnswered}
+use Rattle.store_model.specs.Steps.{BearsStep, IsNextOther, StandsWith, StepsOn}
+use Rattle.store_model.specs.Table.{MeansLine}
+use Rattle.store_model.specs.Recipes.{KeepsForms}
 use Rattle.script_laws.proofs.Following.{near_with}
 use Rattle.script_laws.proofs.Forms.{grown_forms, still_forms}
 use Rattle.script_laws.proofs.LineLemmas.{unmoved, full_is, full_means, not_full_means}

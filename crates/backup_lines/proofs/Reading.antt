@@ -10,7 +10,7 @@ use Rattle.vault_types.specs.Lists.{parts, rest}
 use Rattle.vault_types.specs.Cuts.{cuts, settled, settled_len, unsettled, only_bytes}
 use Rattle.vault_types.proofs.PartsLemmas.{parts-append}
 use Rattle.vault_traits.specs.Told.{SourceTold, Gives}
-use Rattle.stream_cutter.specs.Cutters.{IsCuttable}
+use Rattle.vault_types.specs.JobRanges.{IsCuttable}
 use Rattle.stream_cutter.proofs.Sizes.{stable}
 use Rattle.backup_jobs.specs.Backup.{IsAtEnd, IsBackupFault}
 use Rattle.backup_jobs.proofs.Limits.{too_many_bytes}

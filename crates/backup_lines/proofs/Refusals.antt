@@ -14,8 +14,8 @@ use Rattle.vault_types.specs.Refusals.{refuses_by_state, IsExact}
 use Rattle.vault_types.specs.Events.{Core}
 use Rattle.vault_traits.specs.Told.{SourceTold}
 use Rattle.keeper_catalog.specs.View.{View}
-use Rattle.script_laws.specs.Causes.{CausesRise, fits, counts_of_source}
-use Rattle.script_laws.specs.Table.{MeansLine}
+use Rattle.store_model.specs.Causes.{CausesRise, fits, counts_of_source}
+use Rattle.store_model.specs.Table.{MeansLine}
 use Rattle.backup_jobs.specs.Backup.{IsBackupFault, IsCauseOf}
 
 pub own_number : (n : ℕ) → nat_eq n n ≡ true

@@ -4,9 +4,9 @@
 
 ghost use Rattle.std.specs.Prelude.{◌≡◌, ◌≤◌, ℕ, List, None};
 ghost use Rattle.vault_types.specs.Events.{Pin};
-ghost use Rattle.backup_pass.specs.Passing.{IsInRange};
+ghost use Rattle.vault_types.specs.JobRanges.{IsInRange};
 ghost use Rattle.pin_laws.specs.Following.{Follows};
-ghost use Rattle.script_laws.specs.Calls.{BacksUpLine};
+ghost use Rattle.store_model.specs.Calls.{BacksUpLine};
 ghost use Rattle.serial_delete.specs.Keeping.{IsStateWith, IsKnownStray};
 
 use keeper_core::Keeper;

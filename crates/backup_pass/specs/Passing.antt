@@ -9,15 +9,9 @@ use Rattle.vault_types.specs.Names.{named_chunk}
 use Rattle.vault_types.specs.Tables.{Container}
 use Rattle.vault_types.specs.Decide.{Rules}
 use Rattle.fingerprint_stage.specs.Sums.{HasSummed}
-use Rattle.stream_cutter.specs.Cutters.{IsCuttable}
+use Rattle.vault_types.specs.JobRanges.{IsCuttable}
 use Rattle.backup_pass.specs.Placing.{HasPlaced, answers_of, index_of}
 use Rattle.backup_pass.specs.declared.pass.Pass.{Pass}
-
--- the settings of a backup are in their ranges
-pub record IsInRange (config : JobConfig) : Type 0 where
-  pub cutting : IsCuttable config.cutting
-  pub container_low : 1 ≤ config.container
-  pub container_high : config.container ≤ 4194304
 
 -- some vectors as lists
 abbrev pub bytes_of_all : {Z : Type 0} → List (Vec ℕ Z) → List (List ℕ)

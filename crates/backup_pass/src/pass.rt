@@ -10,7 +10,7 @@ ghost use Rattle.fp_index.specs.Index.{found_in};
 ghost use Rattle.container_fill.specs.Filling.{IsFilledBy};
 ghost use Rattle.backup_pass.specs.Placing.{HasPlaced, answers_of, index_of};
 ghost use Rattle.backup_pass.specs.Passing.{HasPassed, IsPassFault, answers_in, index_in, bytes_of_all};
-ghost use Rattle.stream_cutter.specs.Cutters.{IsCuttable};
+ghost use Rattle.vault_types.specs.JobRanges.{IsCuttable};
 
 use crate::Placer;
 use container_fill::Filled;

@@ -1,4 +1,2 @@
-pub mod Causes
-pub mod Writes
 pub mod Reading
 pub mod Recipes

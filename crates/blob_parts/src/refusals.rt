@@ -1,6 +1,6 @@
 // Why a call over a shelf is refused.
 ghost use Rattle.std.specs.Prelude.{◌≡◌};
-ghost use Rattle.blob_parts.specs.Causes.{fault_of};
+ghost use Rattle.vault_traits.specs.Causes.{fault_of};
 
 use vault_traits::{Refused, Shelf};
 use vault_types::Fault;

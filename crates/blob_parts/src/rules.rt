@@ -1,7 +1,6 @@
 // Whether a recipe that was read keeps the rules of recipes.
-ghost use Rattle.std.specs.Prelude.{◌≡◌, true, ◌↔◌, ◌≤◌, ◌<◌, ◌^◌, ℕ, [], All, Contains, IsTrue, IfOk, IfSome, map};
+ghost use Rattle.std.specs.Prelude.{◌≡◌, true, ◌↔◌, ◌≤◌, ◌<◌, ◌^◌, ℕ, [], All, Contains, IsTrue, IfOk, IfSome, map, nat_eq};
 ghost use Rattle.std.specs.HashSet as bag;
-ghost use Rattle.std.specs.Prelude.{nat_eq};
 ghost use Rattle.std.specs.List.{AllByRecursion};
 ghost use Rattle.sha1.specs.Sha1.{sha1};
 ghost use Rattle.vault_types.specs.Lists.{has, IsAscending};

@@ -4,8 +4,8 @@ use Rattle.std.specs.Option.{option_map_or}
 use Rattle.vault_types.specs.declared.Cutting.{Cutting}
 use Rattle.vault_types.specs.declared.Cutting.TheVariants.{Ae}
 use Rattle.vault_types.specs.Cuts.{Chunker, settled_len}
-use Rattle.chunk_ae.specs.declared.step.Step.{Step}
-use Rattle.chunk_ae.specs.declared.step.Step.TheVariants.{Whole, Held}
+use Rattle.chunk_ae.specs.declared.step.Feeding.{Feeding}
+use Rattle.chunk_ae.specs.declared.step.Feeding.TheVariants.{Whole, Held}
 
 -- the bytes of the chunk in hand, if there is one
 abbrev pub held_bytes : {Z : Type 0} → Option (Vec ℕ Z) → List ℕ
@@ -36,6 +36,6 @@ pub record IsKept (old new : Chunker) (piece : List ℕ) : Type 0 where
   pub held : new.held ≡ old.held ++ piece
   pub none : settled_len new.cutting new.held ≡ None
 
-abbrev pub IsFilled : Chunker → Chunker → List ℕ → Step → Type 0
+abbrev pub IsFilled : Chunker → Chunker → List ℕ → Feeding → Type 0
 IsFilled old new piece (Whole chunk taken) = IsWhole old new piece chunk.items taken
 IsFilled old new piece Held = IsKept old new piece

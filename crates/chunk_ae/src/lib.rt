@@ -12,7 +12,7 @@ mod scan;
 mod step;
 
 use crate::scan::{Scan, Scanned, scan_piece};
-use crate::step::Step;
+use crate::step::Feeding;
 use std::alloc::Global;
 use std::marker::Model;
 use vault_types::Memory;
@@ -78,11 +78,11 @@ impl Ae {
         let mut rest = piece;
         loop {
             match self.fill(alloc, rest)? {
-                Step::Whole { chunk, taken } => {
+                Feeding::Whole { chunk, taken } => {
                     out.push(chunk)?;
                     rest = &rest[taken..];
                 }
-                Step::Held => return Ok(()),
+                Feeding::Held => return Ok(()),
             }
         }
     }
@@ -108,12 +108,12 @@ impl Ae {
 
     // Takes bytes from the front of a piece, until the chunk in hand is whole or the piece is used up. A chunk that goes
     // on behind the piece has room for the greatest length at once.
-    fn fill(&mut self, alloc: Global, piece: &[u8]) -> Result<Step, Memory>
+    fn fill(&mut self, alloc: Global, piece: &[u8]) -> Result<Feeding, Memory>
         ensures { IfOk result (IsFilled self.old self.new piece.now) }
     {
         if piece.is_empty() {
             let _ = &self.held;
-            return Ok(Step::Held);
+            return Ok(Feeding::Held);
         }
         let start = self.scan;
         let held = self.held.take();
@@ -121,12 +121,12 @@ impl Ae {
         match scan_piece(self.window, self.max, &start, piece) {
             Scanned::End(taken) => {
                 let chunk = extended(alloc, held, taken, &piece[..taken])?;
-                Ok(Step::Whole { chunk, taken })
+                Ok(Feeding::Whole { chunk, taken })
             }
             Scanned::Open(next) => {
                 self.held = Some(extended(alloc, held, self.max, piece)?);
                 self.scan = next;
-                Ok(Step::Held)
+                Ok(Feeding::Held)
             }
         }
     }

@@ -8,7 +8,7 @@ ghost use Rattle.vault_types.specs.Cuts.{cuts, settled, unsettled, only_bytes, H
 
 mod step;
 
-use crate::step::Step;
+use crate::step::Feeding;
 use std::alloc::Global;
 use std::marker::Model;
 use vault_types::Memory;
@@ -66,11 +66,11 @@ impl Fixed {
         let mut rest = piece;
         loop {
             match self.fill(alloc, rest)? {
-                Step::Whole { chunk, taken } => {
+                Feeding::Whole { chunk, taken } => {
                     out.push(chunk)?;
                     rest = &rest[taken..];
                 }
-                Step::Held => return Ok(()),
+                Feeding::Held => return Ok(()),
             }
         }
     }
@@ -90,12 +90,12 @@ impl Fixed {
     }
 
     // Takes bytes from the front of a piece, until the chunk in hand is whole or the piece is used up.
-    fn fill(&mut self, alloc: Global, piece: &[u8]) -> Result<Step, Memory>
+    fn fill(&mut self, alloc: Global, piece: &[u8]) -> Result<Feeding, Memory>
         ensures { IfOk result (IsFilled self.old self.new piece.now) }
     {
         if piece.is_empty() {
             let _ = &self.held;
-            return Ok(Step::Held);
+            return Ok(Feeding::Held);
         }
         let mut chunk = match self.held.take() {
             Some(chunk) => chunk,
@@ -104,10 +104,10 @@ impl Fixed {
         let taken = (self.size - chunk.len()).min(piece.len());
         chunk.extend_from_slice(&piece[..taken])?;
         if chunk.len() == self.size {
-            return Ok(Step::Whole { chunk, taken });
+            return Ok(Feeding::Whole { chunk, taken });
         }
         self.held = Some(chunk);
-        Ok(Step::Held)
+        Ok(Feeding::Held)
     }
 }
 

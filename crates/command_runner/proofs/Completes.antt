@@ -17,13 +17,13 @@ use Rattle.vault_types.specs.Shelf.{Blobs, Stands}
 use Rattle.vault_types.specs.State.{State}
 use Rattle.vault_traits.specs.Counts.{Rose, RiseFrom}
 use Rattle.vault_traits.specs.Told.{Files, SinkTold, SourceTold}
-use Rattle.keeper_open.specs.Damage.{IsDamageOf}
+use Rattle.vault_types.specs.FirstDamage.{IsDamageOf}
 use Rattle.keeper_open.proofs.Lawful.{undamaged}
-use Rattle.script_laws.specs.Leaves.{Begins}
-use Rattle.run_laws.specs.World.{World, IsPrinted, report_text}
-use Rattle.run_laws.specs.Filling.{outputs_text}
-use Rattle.run_laws.specs.Early.{CanOpen, EndsEarly, IsBatch, IsEarly, IsScript, IsScriptFault}
-use Rattle.run_laws.specs.Run.{IsRun, NoneRose, Runs}
+use Rattle.store_model.specs.Leaves.{Begins}
+use Rattle.store_model.specs.World.{World, IsPrinted, report_text}
+use Rattle.store_model.specs.Filling.{outputs_text}
+use Rattle.store_model.specs.Early.{CanOpen, EndsEarly, IsBatch, IsEarly, IsScript, IsScriptFault}
+use Rattle.store_model.specs.Run.{IsRun, NoneRose, Runs}
 use Rattle.command_runner.specs.Unbuilt.{Unbuilt}
 use Rattle.command_runner.specs.Completes.{IsBuilt, IsCompleteRun}
 

@@ -1,7 +1,6 @@
 -- What `fill` prints, and what it runs.
-use Rattle.std.specs.Prelude.{true}
+use Rattle.std.specs.Prelude.{true, min, codes, decimal, IsSome}
 use Rattle.std.proofs.Common.{◌≡◌, ◌≤◌, ◌<◌, ◌+◌, ◌-◌, ℕ, zero, suc, List, [], ◌∷◌, ◌++◌, length, length-drop, drop, get_or, Option, Some, None, refl, sym, ap, subst, arith, ◌∙◌, append_assoc, add-one}
-use Rattle.std.specs.Prelude.{min, codes, decimal, IsSome}
 use Rattle.std.proofs.Math.Seq.{drop-cons, drop-length}
 use Rattle.std.proofs.lemmas.List.{append-nil}
 use Rattle.vault_types.specs.declared.Fault.{Fault}
@@ -12,13 +11,13 @@ use Rattle.vault_types.specs.Generator.{generated, fill_lines}
 use Rattle.vault_types.specs.Script.{Sources}
 use Rattle.vault_types.specs.State.{State}
 use Rattle.vault_traits.specs.Told.{SinkTold, PlacesTold, Files, Takes}
-use Rattle.script_laws.specs.Leaves.{Begins}
-use Rattle.script_laws.specs.Outputs.{AreFedBy}
-use Rattle.script_laws.specs.Room.{NeedRoom}
-use Rattle.script_laws.specs.Script.{RunsLines}
-use Rattle.script_laws.specs.Strays.{StraysOf}
-use Rattle.run_laws.specs.Filling.{AreGenerated, RunsFill, output_of, outputs_text}
-use Rattle.run_laws.specs.World.{World, IsPrinted, report_text}
+use Rattle.store_model.specs.Leaves.{Begins}
+use Rattle.store_model.specs.Outputs.{AreFedBy}
+use Rattle.store_model.specs.Room.{NeedRoom}
+use Rattle.store_model.specs.Script.{RunsLines}
+use Rattle.store_model.specs.Strays.{StraysOf}
+use Rattle.store_model.specs.Filling.{AreGenerated, RunsFill, output_of, outputs_text}
+use Rattle.store_model.specs.World.{World, IsPrinted, report_text}
 use Rattle.report_printer.proofs.Written.{takes_nothing, takes_then, front_behind}
 use Rattle.workload.specs.Places.{Filling, file_at, source_name, told_of}
 

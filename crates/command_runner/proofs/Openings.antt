@@ -5,9 +5,9 @@ use Rattle.vault_types.specs.declared.Fault.{Fault}
 use Rattle.vault_types.specs.declared.Fault.TheVariants as fault
 use Rattle.vault_types.specs.declared.Answer.{Answer}
 use Rattle.vault_traits.specs.Told.{ShelfTold, SinkTold}
-use Rattle.run_laws.specs.World.{World, status_after, report_text, IsPrinted, IsTold}
-use Rattle.run_laws.specs.Early.{HasOpened, IsSameBut, IsStartFault}
-use Rattle.run_laws.specs.Run.{EndsAtOpening}
+use Rattle.store_model.specs.World.{World, status_after, report_text, IsPrinted, IsTold}
+use Rattle.store_model.specs.Early.{HasOpened, IsSameBut, IsStartFault}
+use Rattle.store_model.specs.Run.{EndsAtOpening}
 use Rattle.command_runner.specs.Going.{GoesOn}
 
 pub not_opened : (Runs : World → World → List Answer → Option Fault → Type 0) (before now : World) (answers : List Answer) (f : Option Fault) (g : Fault) (status : ℕ) → IsSameBut before.shelf now.shelf × IsStartFault before.shelf now.shelf g

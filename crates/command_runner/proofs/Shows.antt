@@ -12,11 +12,11 @@ use Rattle.vault_types.specs.State.{State, KeptVersion, version_of, recipe_of}
 use Rattle.vault_types.specs.Texts.{recipe_text}
 use Rattle.vault_traits.specs.Counts.{Rose}
 use Rattle.vault_traits.specs.Told.{ShelfTold, SinkTold, Takes}
-use Rattle.script_laws.specs.Leaves.{Begins}
-use Rattle.script_laws.specs.Causes.{CausesRise, counts_of_shelf, counts_of_sink}
-use Rattle.run_laws.specs.World.{World, IsPrinted, TakesFront, report_text}
-use Rattle.run_laws.specs.Early.{IsSameBut}
-use Rattle.run_laws.specs.Courses.{IsShown, RunsShow, fits_show}
+use Rattle.store_model.specs.Leaves.{Begins}
+use Rattle.store_model.specs.Causes.{CausesRise, counts_of_shelf, counts_of_sink}
+use Rattle.store_model.specs.World.{World, IsPrinted, TakesFront, report_text}
+use Rattle.store_model.specs.Early.{IsSameBut}
+use Rattle.store_model.specs.Courses.{IsShown, RunsShow, fits_show}
 use Rattle.run_laws.proofs.Earlier.{causes_earlier}
 use Rattle.command_runner.specs.Showing.{IsUnread, IsReadersFault, IsWrittenRecipe}
 

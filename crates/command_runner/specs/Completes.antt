@@ -10,10 +10,10 @@ use Rattle.vault_types.specs.declared.Answer.{Answer}
 use Rattle.vault_types.specs.Words.{command_of}
 use Rattle.vault_types.specs.Bytes.{IsSound}
 use Rattle.vault_types.specs.State.{State}
-use Rattle.script_laws.specs.Leaves.{Begins}
-use Rattle.run_laws.specs.World.{World}
-use Rattle.run_laws.specs.Early.{CanOpen, IsBatch}
-use Rattle.run_laws.specs.Run.{NoneRose}
+use Rattle.store_model.specs.Leaves.{Begins}
+use Rattle.store_model.specs.World.{World}
+use Rattle.store_model.specs.Early.{CanOpen, IsBatch}
+use Rattle.store_model.specs.Run.{NoneRose}
 
 -- the commands that a run makes
 abbrev pub IsBuilt : Command → Type 0

@@ -1,15 +1,14 @@
 -- A run from the opening of the shelf on, and that of a script.
-use Rattle.std.specs.Prelude.{true}
-use Rattle.std.specs.Prelude.{◌≡◌, ◌⊎◌, ◌+◌, ℕ, List, [], Option, IsSomeAnd, IfSome}
+use Rattle.std.specs.Prelude.{true, ◌≡◌, ◌⊎◌, ◌+◌, ℕ, List, [], Option, IsSomeAnd, IfSome}
 use Rattle.vault_types.specs.declared.Limits.{Limits}
 use Rattle.vault_types.specs.declared.Line.{Line}
 use Rattle.vault_types.specs.declared.Fault.{Fault}
 use Rattle.vault_types.specs.declared.Answer.{Answer}
 use Rattle.vault_traits.specs.Told.{SourceTold}
-use Rattle.script_laws.specs.Calls.{GivesAtMost}
-use Rattle.run_laws.specs.World.{World, status_after, IsTold}
-use Rattle.run_laws.specs.Early.{IsScript, IsScriptFault}
-use Rattle.run_laws.specs.Run.{EndsAtOpening, RanLines, RunsOpened, with_input}
+use Rattle.store_model.specs.Calls.{GivesAtMost}
+use Rattle.store_model.specs.World.{World, status_after, IsTold}
+use Rattle.store_model.specs.Early.{IsScript, IsScriptFault}
+use Rattle.store_model.specs.Run.{EndsAtOpening, RanLines, RunsOpened, with_input}
 
 -- it ends where the shelf is opened, or the shelf opens and it runs as told; and its status
 pub record GoesOn (Runs : World → World → List Answer → Option Fault → Type 0) (before now : World) (answers : List Answer) (f : Option Fault) (status : ℕ) : Type 0 where

@@ -9,11 +9,11 @@ use Rattle.vault_types.specs.State.{State, KeptVersion, is_kept, floor_of, lates
 use Rattle.vault_types.specs.Texts.{recipe_text}
 use Rattle.vault_traits.specs.Counts.{Rose}
 use Rattle.vault_traits.specs.Told.{ShelfTold, SinkTold, Takes}
-use Rattle.script_laws.specs.Calls.{Keeping}
-use Rattle.script_laws.specs.Causes.{CausesRise, counts_of_shelf}
-use Rattle.run_laws.specs.Early.{IsSameBut}
-use Rattle.run_laws.specs.Courses.{fits_show}
-use Rattle.run_laws.specs.World.{TakesFront}
+use Rattle.store_model.specs.Calls.{Keeping}
+use Rattle.store_model.specs.Causes.{CausesRise, counts_of_shelf}
+use Rattle.store_model.specs.Early.{IsSameBut}
+use Rattle.store_model.specs.Courses.{fits_show}
+use Rattle.store_model.specs.World.{TakesFront}
 
 -- why a recipe of a store in the state is not read: its version is not kept, the shelf failed, or there was no memory
 abbrev pub IsUnread : State → ℕ → ℕ → Fault → Type 0

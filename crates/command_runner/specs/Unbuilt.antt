@@ -5,8 +5,8 @@ use Rattle.vault_types.specs.declared.Command.{Command}
 use Rattle.vault_types.specs.declared.Fault.{Fault}
 use Rattle.vault_types.specs.declared.Fault.TheVariants as fault
 use Rattle.vault_types.specs.declared.Answer.{Answer}
-use Rattle.run_laws.specs.World.{World, IsTold}
-use Rattle.run_laws.specs.Run.{Course}
+use Rattle.store_model.specs.World.{World, IsTold}
+use Rattle.store_model.specs.Run.{Course}
 
 -- it is refused like words that are no command, and nothing but the fault's line is written
 pub record IsUnbuilt (before now : World) (answers : List Answer) (f : Option Fault) : Type 0 where

@@ -2,12 +2,12 @@
 ghost use Rattle.std.specs.Prelude.{◌≡◌, ◌≤◌, None, Some, [], IfOk, IfErr, vec_len, vec_capacity};
 ghost use Rattle.vault_types.specs.declared.Name.{Name as Named};
 ghost use Rattle.vault_types.specs.State.{State};
-ghost use Rattle.script_laws.specs.Leaves.{Begins};
-ghost use Rattle.script_laws.specs.Steps.{answer_of};
-ghost use Rattle.script_laws.specs.Strays.{StraysOf};
-ghost use Rattle.run_laws.specs.Early.{HasOpened, IsSameBut, IsStartFault};
-ghost use Rattle.run_laws.specs.World as world;
-ghost use Rattle.run_laws.specs.World.{IsTold};
+ghost use Rattle.store_model.specs.Leaves.{Begins};
+ghost use Rattle.store_model.specs.Steps.{answer_of};
+ghost use Rattle.store_model.specs.Strays.{StraysOf};
+ghost use Rattle.store_model.specs.Early.{HasOpened, IsSameBut, IsStartFault};
+ghost use Rattle.store_model.specs.World as world;
+ghost use Rattle.store_model.specs.World.{IsTold};
 
 use crate::store::ShelfStore;
 use report_printer::{status_after, tell};

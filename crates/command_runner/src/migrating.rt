@@ -1,5 +1,5 @@
 // The command `migrate`.
-ghost use Rattle.run_laws.specs.Migrating.{RunsMigrate};
+ghost use Rattle.store_model.specs.Migrating.{RunsMigrate};
 ghost use Rattle.command_runner.specs.Going.{GoesOn};
 
 use crate::ending::{Ended, answer_from, ended_early, open_for_one};

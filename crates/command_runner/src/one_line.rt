@@ -1,8 +1,8 @@
 // Commands of one line.
 ghost use Rattle.std.specs.Prelude.{◌≡◌, ◌≤◌};
-ghost use Rattle.backup_pass.specs.Passing.{IsInRange};
-ghost use Rattle.run_laws.specs.Courses.{RunsBackup, RunsRestore, RunsDelete};
-ghost use Rattle.word_ranges.specs.Ranges.{AreLimits};
+ghost use Rattle.vault_types.specs.JobRanges.{IsInRange};
+ghost use Rattle.store_model.specs.Courses.{RunsBackup, RunsRestore, RunsDelete};
+ghost use Rattle.store_model.specs.Ranges.{AreLimits};
 ghost use Rattle.command_runner.specs.Going.{GoesOn};
 
 use crate::ending::{Ended, answer_from, ended_early, open_for_one};

@@ -2,8 +2,8 @@
 ghost use Rattle.std.specs.Prelude.{◌≡◌, ◌≤◌, ◌++◌, ℕ, List};
 ghost use Rattle.vault_types.specs.Names.{fp};
 ghost use Rattle.vault_types.specs.Texts as texts;
-ghost use Rattle.run_laws.specs.Filling.{output_of, outputs_text};
-ghost use Rattle.run_laws.specs.World.{IsPrinted, report_text};
+ghost use Rattle.store_model.specs.Filling.{output_of, outputs_text};
+ghost use Rattle.store_model.specs.World.{IsPrinted, report_text};
 ghost use Rattle.workload.specs.Places.{file_at};
 
 use report_printer::{print_all, write_all};

@@ -1,7 +1,7 @@
 // A run of the program's words.
 ghost use Rattle.std.specs.Prelude.{true, map, string_bytes};
-ghost use Rattle.run_laws.specs.Run.{IsRun};
-ghost use Rattle.word_ranges.specs.Ranges.{AreLimits};
+ghost use Rattle.store_model.specs.Run.{IsRun};
+ghost use Rattle.store_model.specs.Ranges.{AreLimits};
 ghost use Rattle.command_runner.specs.Unbuilt.{Unbuilt};
 ghost use Rattle.command_runner.specs.Going.{BatchGoes};
 ghost use Rattle.command_runner.specs.Completes.{IsCompleteRun};

@@ -1,9 +1,9 @@
 // The lines of a script.
 ghost use Rattle.std.specs.Prelude.{true};
 ghost use Rattle.std.specs.List.{AllByRecursion};
-ghost use Rattle.script_laws.specs.Outputs.{AreApartLines};
-ghost use Rattle.run_laws.specs.Run.{RanLines};
-ghost use Rattle.word_ranges.specs.Ranges.{AreLimits, IsLineInRange};
+ghost use Rattle.store_model.specs.Outputs.{AreApartLines};
+ghost use Rattle.store_model.specs.Run.{RanLines};
+ghost use Rattle.store_model.specs.Ranges.{AreLimits, IsLineInRange};
 ghost use Rattle.command_runner.specs.Going.{GoesOn};
 
 use crate::ending::{Ended, ended_early};

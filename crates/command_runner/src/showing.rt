@@ -1,9 +1,9 @@
 // The recipe of a version, as text.
 ghost use Rattle.std.specs.Prelude.{◌≡◌, ◌≤◌, ◌<◌, ◌^◌, ◌∷◌, [], length, IsTrue, None};
 ghost use Rattle.vault_types.specs.State.{State};
-ghost use Rattle.script_laws.specs.Causes.{CausesRise, counts_of_sink};
-ghost use Rattle.run_laws.specs.Early.{IsSameBut};
-ghost use Rattle.run_laws.specs.Courses.{IsShown, RunsShow, fits_show};
+ghost use Rattle.store_model.specs.Causes.{CausesRise, counts_of_sink};
+ghost use Rattle.store_model.specs.Early.{IsSameBut};
+ghost use Rattle.store_model.specs.Courses.{IsShown, RunsShow, fits_show};
 ghost use Rattle.command_runner.specs.Going.{GoesOn};
 ghost use Rattle.command_runner.specs.Showing.{IsWrittenRecipe};
 

@@ -2,10 +2,10 @@
 ghost use Rattle.std.specs.Prelude.{◌≡◌, ◌<◌, ◌^◌, None, length, IfOk, IfErr};
 ghost use Rattle.vault_types.specs.declared.Name.{Name as Named};
 ghost use Rattle.vault_types.specs.State.{State};
-ghost use Rattle.script_laws.specs.Leaves.{Begins};
-ghost use Rattle.script_laws.specs.Strays.{StraysOf};
-ghost use Rattle.run_laws.specs.Early.{HasOpened, IsSameBut, IsStartFault};
-ghost use Rattle.run_laws.specs.Migrating.{MigratesStore};
+ghost use Rattle.store_model.specs.Leaves.{Begins};
+ghost use Rattle.store_model.specs.Strays.{StraysOf};
+ghost use Rattle.store_model.specs.Early.{HasOpened, IsSameBut, IsStartFault};
+ghost use Rattle.store_model.specs.Migrating.{MigratesStore};
 ghost use Rattle.command_runner.specs.Showing.{ReadsRecipe};
 
 use script_runner::Store;

@@ -19,11 +19,11 @@ use Rattle.vault_types.specs.Events.{Core, Job, Change, put_by, pinned_container
 use Rattle.vault_types.proofs.GrowLemmas.{version_of-new}
 use Rattle.vault_traits.specs.Shelf.{blobs_with}
 use Rattle.vault_traits.proofs.Maps.{get_other, get_is, is_or_not, written_or_other, with_blob_twice}
-use Rattle.keeper_parts.specs.Parts.{HeldIfTold, CanChange, change}
-use Rattle.keeper_parts.proofs.Standing.{keeps_container, needs_recipe, needs_pinned, needs_container}
-use Rattle.keeper_parts.proofs.Changing.{version_high, latest_low, recipe_same, recipe_no_floor, recipe_no_table, recipe_no_payload, told_more, told_with, told_same}
-use Rattle.keeper_parts.proofs.Growing as grown
-use Rattle.keeper_parts.proofs.Growing.{floor_pos, version_back, sets_same, grown_needs_new, grown_stands}
+use Rattle.state_laws.specs.Parts.{HeldIfTold, CanChange, change}
+use Rattle.state_laws.proofs.Standing.{keeps_container, needs_recipe, needs_pinned, needs_container}
+use Rattle.state_laws.proofs.Changing.{version_high, latest_low, recipe_same, recipe_no_floor, recipe_no_table, recipe_no_payload, told_more, told_with, told_same}
+use Rattle.state_laws.proofs.Growing as grown
+use Rattle.state_laws.proofs.Growing.{floor_pos, version_back, sets_same, grown_needs_new, grown_stands}
 use Rattle.commit_laws.specs.Laws.{AreStraysLeft}
 use Rattle.commit_laws.proofs.Listing.{some_same, no_member}
 use Rattle.commit_laws.proofs.Committing.{job_alone, commit_core, commit_is_change}

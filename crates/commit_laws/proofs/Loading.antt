@@ -19,8 +19,8 @@ use Rattle.vault_types.proofs.SetLemmas.{has-set_of}
 use Rattle.vault_traits.proofs.Maps.{get_other}
 use Rattle.recipe_store.proofs.Apart.{recipes_apart}
 use Rattle.restore_pins.specs.Pins.{IsListOf}
-use Rattle.keeper_parts.proofs.Changing.{version_high, latest_low, recipe_same, recipe_no_floor}
-use Rattle.keeper_parts.proofs.Growing.{rows_of}
+use Rattle.state_laws.proofs.Changing.{version_high, latest_low, recipe_same, recipe_no_floor}
+use Rattle.state_laws.proofs.Growing.{rows_of}
 use Rattle.commit_laws.specs.Laws.{pin_with, SaysVersion}
 use Rattle.commit_laws.proofs.Listing.{all_at, all_map, all_weaker, some_same, contains_of, same_number}
 use Rattle.commit_laws.proofs.Committing.{found_named}

@@ -12,7 +12,7 @@ use Rattle.vault_types.specs.State.{State, Dataset, KeptVersion, dataset, empty_
 use Rattle.vault_types.specs.Events.{Job, committed}
 use Rattle.vault_types.proofs.SetLemmas.{has-set_of}
 use Rattle.vault_types.proofs.GrowLemmas.{version_of-new, version_of-kept}
-use Rattle.keeper_parts.proofs.Growing.{floor_pos, version_back}
+use Rattle.state_laws.proofs.Growing.{floor_pos, version_back}
 use Rattle.keeper_catalog.specs.declared.SetInfo.{SetInfo}
 use Rattle.keeper_catalog.specs.Catalog.{set_info, versions_in, Names, AreMarks}
 use Rattle.commit_laws.proofs.Listing.{all_at, all_map, all_unmap, all_weaker, themselves, has_of, contains_of}

@@ -16,9 +16,9 @@ use Rattle.vault_types.specs.State.{latest_of, next_of, container_in}
 use Rattle.vault_types.specs.Shelf.{Blobs, HasContainer}
 use Rattle.vault_types.specs.Events.{Core, Change, Pin, put_by, pinned_containers, containers_of, IsNeeded, IsNear, HasChange, IsChange, IsCore, Held}
 use Rattle.vault_types.proofs.NextLemmas.{ids_below}
-use Rattle.keeper_parts.specs.Parts.{HeldIfTold}
-use Rattle.keeper_parts.proofs.Standing.{keeps_container, needs_pinned, needs_container}
-use Rattle.keeper_parts.proofs.Changing.{recipe_no_table, recipe_no_payload, floor_no_table, floor_no_payload, told_more}
+use Rattle.state_laws.specs.Parts.{HeldIfTold}
+use Rattle.state_laws.proofs.Standing.{keeps_container, needs_pinned, needs_container}
+use Rattle.state_laws.proofs.Changing.{recipe_no_table, recipe_no_payload, floor_no_table, floor_no_payload, told_more}
 use Rattle.keeper_catalog.specs.Catalog.{listed, AreTables}
 use Rattle.commit_laws.specs.Laws.{pin_with, pinned_core}
 use Rattle.commit_laws.proofs.Listing.{all_at, found_append, found_where, later_of_list}

@@ -21,7 +21,7 @@ use Rattle.blob_parts.proofs.Fields.{blob_same}
 use Rattle.container_store.proofs.TableLemmas.{has_widths}
 use Rattle.container_store.proofs.TableField.{table_field}
 use Rattle.recipe_store.proofs.Apart.{recipes_apart, floors_apart}
-use Rattle.keeper_parts.proofs.Changing.{version_low, version_high}
+use Rattle.state_laws.proofs.Changing.{version_low, version_high}
 use Rattle.commit_laws.proofs.Listing.{all_of, some_same, none_some}
 use Rattle.commit_laws.proofs.Growing.{dataset_at}
 

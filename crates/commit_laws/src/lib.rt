@@ -18,7 +18,7 @@ ghost use Rattle.vault_types.specs.Shelf.{Blobs, recipe_name, with_blob, Stands}
 ghost use Rattle.vault_types.specs.State.{KeptVersion, State, floor_of, next_of, version_of, IsValid};
 ghost use Rattle.vault_types.specs.Tables.{Container, IsTable};
 ghost use Rattle.restore_pins.specs.Pins.{IsListOf};
-ghost use Rattle.keeper_parts.specs.Parts.{CanChange, HeldIfTold, change};
+ghost use Rattle.state_laws.specs.Parts.{CanChange, HeldIfTold, change};
 ghost use Rattle.keeper_catalog.specs.Catalog.{AreMarks, AreTables, listed, set_info, table_at, versions_in};
 ghost use Rattle.commit_laws.specs.Laws.{AreStraysLeft, SaysVersion, is_put, name_of, pin_with, pinned_core, said};
 

@@ -1,3 +1,2 @@
 pub mod Sealing
-pub mod Damages
 pub mod Reading

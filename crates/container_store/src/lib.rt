@@ -6,13 +6,13 @@ ghost use Rattle.vault_types.specs.declared.Fault.TheVariants as fault;
 ghost use Rattle.vault_types.specs.declared.Table.{Table as Tables};
 ghost use Rattle.vault_types.specs.Tables.{IsTable, payload_len};
 ghost use Rattle.vault_types.specs.Blobs.{table_bytes, table_row_bytes, SpellsTable};
-ghost use Rattle.vault_types.specs.Shelf.{table_name, payload_name};
+ghost use Rattle.vault_types.specs.Shelf.{table_name, payload_name, Has};
 ghost use Rattle.vault_traits.specs.Counts.{HasFailed, counted};
 ghost use Rattle.vault_traits.specs.Shelf.{IsAsBefore, IsWritten};
-ghost use Rattle.blob_parts.specs.Causes.{Has, HasCauses, IsUndamaged};
-ghost use Rattle.blob_parts.specs.Writes.{AreWritten, MayBeWrittenInTurn};
+ghost use Rattle.vault_traits.specs.Causes.{HasCauses, IsUndamaged};
+ghost use Rattle.vault_traits.specs.Writes.{AreWritten, MayBeWrittenInTurn};
 ghost use Rattle.container_store.specs.Sealing.{payload_of};
-ghost use Rattle.container_store.specs.Damages.{IsNoTable, IsTableDamage, IsWrongPayload, IsPayloadDamage, IsPayloadOf, IsLoaded};
+ghost use Rattle.vault_types.specs.BlobDamage.{IsNoTable, IsTableDamage, IsWrongPayload, IsPayloadDamage, IsPayloadOf, IsLoaded};
 
 mod reading;
 mod sealed;

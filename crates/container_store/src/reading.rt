@@ -4,7 +4,7 @@ ghost use Rattle.std.specs.List.{IsDistinct};
 ghost use Rattle.vault_types.specs.Names.{same_fp};
 ghost use Rattle.vault_types.specs.Tables.{IsTable, payload_len};
 ghost use Rattle.vault_types.specs.Blobs.{SpellsTable};
-ghost use Rattle.container_store.specs.Damages.{IsNoTable};
+ghost use Rattle.vault_types.specs.BlobDamage.{IsNoTable};
 ghost use Rattle.blob_parts.specs.Reading.{Gives, many_at, wide_at, list_at};
 ghost use Rattle.container_store.specs.Reading.{table_row_at, table_at, HasWidths};
 

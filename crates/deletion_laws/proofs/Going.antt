@@ -13,13 +13,13 @@ use Rattle.vault_types.specs.Delete.{delete, reclaimed_ids}
 use Rattle.vault_types.specs.Shelf.{Blobs, with_blob, table_name, payload_name, recipe_name, floor_name}
 use Rattle.vault_types.specs.Events.{Core, Change, pinned_containers, IsNeeded, Held, IsNear, after_delete}
 use Rattle.vault_traits.specs.Shelf.{blobs_with}
-use Rattle.keeper_parts.specs.Parts.{HeldIfTold, CanClean}
-use Rattle.keeper_parts.proofs.Standing.{needs_container, needs_pinned, needs_recipe, container_name}
-use Rattle.keeper_parts.proofs.Changing.{version_high, version_low, latest_low, recipe_same, recipe_no_floor, recipe_no_table, recipe_no_payload, floor_no_table, floor_no_payload, told_same, told_more}
-use Rattle.keeper_parts.proofs.Growing.{floor_pos, same_or_not}
+use Rattle.state_laws.specs.Parts.{HeldIfTold, CanClean}
+use Rattle.state_laws.proofs.Standing.{needs_container, needs_pinned, needs_recipe, container_name}
+use Rattle.state_laws.proofs.Changing.{version_high, version_low, latest_low, recipe_same, recipe_no_floor, recipe_no_table, recipe_no_payload, floor_no_table, floor_no_payload, told_same, told_more}
+use Rattle.state_laws.proofs.Growing.{floor_pos, same_or_not}
 use Rattle.deletion_laws.specs.Deleting.{pinned_ids, Deletes, AreApart, IsGone, IsGoneRecipe, IsGoneContainer, AreStraysAfter}
-use Rattle.deletion_laws.proofs.Members.{clash, of_map, in_map, has-filter, filter_contains, filter_passed}
-use Rattle.deletion_laws.proofs.Shrinking.{sets_same, floor_new, needed_was}
+use Rattle.state_laws.proofs.Members.{clash, of_map, in_map, has-filter, filter_contains, filter_passed}
+use Rattle.state_laws.proofs.Shrinking.{sets_same, floor_new, needed_was}
 use Rattle.deletion_laws.proofs.Keeping.{container_named, delete_valid, delete_same}
 use Rattle.deletion_laws.proofs.Marking.{version_stays}
 use Rattle.deletion_laws.proofs.Steps.{deleted_held, deleted_cleans}

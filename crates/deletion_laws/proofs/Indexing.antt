@@ -13,7 +13,7 @@ use Rattle.vault_types.proofs.SetLemmas.{IsAscending-set_of}
 use Rattle.vault_types.proofs.StateLemmas.{row_ids}
 use Rattle.fp_index.specs.Index.{without_id, IsOnlyOne}
 use Rattle.deletion_laws.specs.Deleting.{without_ids}
-use Rattle.deletion_laws.proofs.Members.{here, later, no_member, first_or_rest, filter_within, has-filter}
+use Rattle.state_laws.proofs.Members.{here, later, no_member, first_or_rest, filter_within, has-filter}
 use Rattle.deletion_laws.proofs.Keeping.{container_named}
 
 -- a filter of the images is that of the elements, where the tests agree at each of them

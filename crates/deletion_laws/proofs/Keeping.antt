@@ -15,13 +15,13 @@ use Rattle.vault_types.specs.Bytes.{HasPayload}
 use Rattle.vault_types.specs.Delete.{delete, without_below, state_with}
 use Rattle.keeper_catalog.specs.declared.SetInfo.{SetInfo}
 use Rattle.keeper_catalog.specs.Catalog.{set_info}
-use Rattle.deletion_laws.proofs.Members.{here, later, in_map}
+use Rattle.state_laws.proofs.Members.{here, later, in_map}
 use Rattle.vault_types.specs.Events.{Core, Job, put_by, IsCore, after_delete}
 use Rattle.vault_types.proofs.SetLemmas.{has-set_of}
 use Rattle.vault_types.proofs.StateLemmas.{delete-containers, container-kept, row_ids}
-use Rattle.keeper_parts.proofs.Changing.{latest_low}
-use Rattle.keeper_parts.proofs.Growing.{floor_pos}
-use Rattle.deletion_laws.proofs.Shrinking.{sets_same, latest_shrunk, has_all}
+use Rattle.state_laws.proofs.Changing.{latest_low}
+use Rattle.state_laws.proofs.Growing.{floor_pos}
+use Rattle.state_laws.proofs.Shrinking.{sets_same, latest_shrunk, has_all}
 
 all_set : {X : Type 0} (P : X → Type 0) (xs : List X) (i : ℕ) (x : X) → AllByRecursion P xs → P x → AllByRecursion P (slice_set xs i x)
 all_set P [] i x all p = tt

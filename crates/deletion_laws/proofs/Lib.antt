@@ -1,5 +1,3 @@
-pub mod Members
-pub mod Shrinking
 pub mod Keeping
 pub mod Steps
 pub mod Marking

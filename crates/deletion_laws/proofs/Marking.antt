@@ -9,11 +9,11 @@ use Rattle.vault_types.specs.State.{State, Dataset, KeptVersion, dataset, empty_
 use Rattle.vault_types.specs.Delete.{delete, reclaimed_ids}
 use Rattle.vault_types.proofs.SetLemmas.{has-set_of, IsAscending-set_of, ascending_unique}
 use Rattle.vault_types.proofs.StateLemmas.{own_version, row_ids}
-use Rattle.keeper_parts.proofs.Changing.{version_low}
-use Rattle.keeper_parts.proofs.Growing.{rows_of}
+use Rattle.state_laws.proofs.Changing.{version_low}
+use Rattle.state_laws.proofs.Growing.{rows_of}
 use Rattle.keeper_catalog.specs.Catalog.{Names, AreMarks}
-use Rattle.deletion_laws.proofs.Members.{both_ways, of_map, in_map, has_contained, contained, has-map_append, filter_contains, filter_passed, filter_within}
-use Rattle.deletion_laws.proofs.Shrinking.{has_all, all_has, at_set}
+use Rattle.state_laws.proofs.Members.{both_ways, of_map, in_map, has_contained, contained, has-map_append, filter_contains, filter_passed, filter_within}
+use Rattle.state_laws.proofs.Shrinking.{has_all, all_has, at_set}
 
 -- the versions that name an id
 

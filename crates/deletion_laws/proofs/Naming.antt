@@ -10,7 +10,7 @@ use Rattle.vault_types.specs.Shelf.{table_name, payload_name, recipe_name}
 use Rattle.vault_types.specs.Events.{Core}
 use Rattle.deletion_laws.specs.Deleting.{pinned_ids, recipe_names, container_names, IsGone, AreStraysAfter}
 use Rattle.deletion_laws.specs.Releasing.{is_released, AreStraysReleased}
-use Rattle.deletion_laws.proofs.Members.{here, later, no_member, first_or_rest, has_contained, contained}
+use Rattle.state_laws.proofs.Members.{here, later, no_member, first_or_rest, has_contained, contained}
 
 -- the names of versions
 

@@ -11,13 +11,13 @@ use Rattle.vault_types.specs.Tables.{Container, id_of}
 use Rattle.vault_types.specs.State.{State, named, next_of, container_in}
 use Rattle.vault_types.specs.Shelf.{Blobs, table_name, payload_name}
 use Rattle.vault_types.specs.Events.{Core, Change, put_by, pinned_containers, pins_without, IsContainerName, IsNeeded, IsChange, IsCore, Held, after_release}
-use Rattle.keeper_parts.specs.Parts.{IsFree, IsIdle, HeldIfTold}
-use Rattle.keeper_parts.proofs.Standing.{needs_container, needs_pinned, container_name}
-use Rattle.keeper_parts.proofs.Changing.{told_more}
+use Rattle.state_laws.specs.Parts.{IsFree, IsIdle, HeldIfTold}
+use Rattle.state_laws.proofs.Standing.{needs_container, needs_pinned, container_name}
+use Rattle.state_laws.proofs.Changing.{told_more}
 use Rattle.keeper_catalog.specs.Catalog.{listed, table_at, AreTables}
 use Rattle.deletion_laws.specs.Deleting.{pinned_ids}
 use Rattle.deletion_laws.specs.Releasing.{released_ids, is_released, IsReleased, AreStraysReleased, AreAlike}
-use Rattle.deletion_laws.proofs.Members.{or_left, clash, no_member, of_map, in_map, container_in-none, container_in-is, container_in-some}
+use Rattle.state_laws.proofs.Members.{or_left, clash, no_member, of_map, in_map, container_in-none, container_in-is, container_in-some}
 use Rattle.deletion_laws.proofs.Keeping.{container_named}
 use Rattle.deletion_laws.proofs.Tabling.{two_parts}
 use Rattle.deletion_laws.proofs.Going.{same_id, no_recipe, no_floor, name_at}

@@ -9,9 +9,9 @@ use Rattle.vault_traits.specs.Crash.{History, LeavesOnlyIfTold, ReadsAnImage}
 use Rattle.vault_traits.specs.Shelf.{blobs_with, IsWritten, MayBeWritten}
 use Rattle.vault_traits.proofs.Maps.{get_is}
 use Rattle.vault_traits.proofs.Moments.{then, ends, silent, silent_write, told_or_silent}
-use Rattle.keeper_parts.specs.Parts.{IsIdle, IsSpare, HeldIfTold, with_strays}
-use Rattle.keeper_parts.proofs.Standing.{held_write, held_may_write, held_fewer, idle_may_write}
-use Rattle.keeper_parts.proofs.Changing.{told_same, told_with}
+use Rattle.state_laws.specs.Parts.{IsIdle, IsSpare, HeldIfTold, with_strays}
+use Rattle.state_laws.proofs.Standing.{held_write, held_may_write, held_fewer, idle_may_write}
+use Rattle.state_laws.proofs.Changing.{told_same, told_with}
 use Rattle.keeper_parts.proofs.Cleaning.{removed_from, removed_cases}
 use Rattle.deletion_laws.specs.Removal.{AreIdle}
 

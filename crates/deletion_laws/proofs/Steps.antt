@@ -12,13 +12,13 @@ use Rattle.vault_types.specs.Shelf.{Blobs, with_blob, floor_name, Stands}
 use Rattle.vault_types.specs.Events.{Core, Job, Change, put_by, pinned_containers, Held, HasChange, IsCore, IsNear, IsNeeded, after_delete, after_refused, delete_change}
 use Rattle.vault_traits.specs.Shelf.{blobs_with}
 use Rattle.vault_traits.proofs.Maps.{written_or_other}
-use Rattle.keeper_parts.specs.Parts.{HeldIfTold, Changes, CanClean, change}
-use Rattle.keeper_parts.proofs.Standing.{keeps_container, needs_floor}
-use Rattle.keeper_parts.proofs.Changing.{told_with, told_more, told_same, floor_no_table, floor_no_payload}
+use Rattle.state_laws.specs.Parts.{HeldIfTold, Changes, CanClean, change}
+use Rattle.state_laws.proofs.Standing.{keeps_container, needs_floor}
+use Rattle.state_laws.proofs.Changing.{told_with, told_more, told_same, floor_no_table, floor_no_payload}
 use Rattle.vault_traits.specs.Crash.{History, LeavesOnlyIfTold}
 use Rattle.vault_traits.proofs.Moments.{more}
 use Rattle.deletion_laws.specs.Deleting.{Deletes, IsDeleting}
-use Rattle.deletion_laws.proofs.Shrinking.{delete_changes, delete_held, delete_cleans, is_delete}
+use Rattle.state_laws.proofs.Shrinking.{delete_changes, delete_held, delete_cleans, is_delete}
 use Rattle.deletion_laws.proofs.Keeping.{delete_valid}
 
 -- the floor of the set is written, and nothing else was half done

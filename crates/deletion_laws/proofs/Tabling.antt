@@ -12,7 +12,7 @@ use Rattle.vault_types.specs.Events.{Core, Job, put_by, pinned_containers, IsCor
 use Rattle.vault_types.proofs.StateLemmas.{container-kept}
 use Rattle.keeper_catalog.specs.Catalog.{listed, table_at, AreTables}
 use Rattle.deletion_laws.specs.Deleting.{pinned_ids}
-use Rattle.deletion_laws.proofs.Members.{clash, has-filter, container_in-append, container_in-none, container_in-is, container_in-some}
+use Rattle.state_laws.proofs.Members.{clash, has-filter, container_in-append, container_in-none, container_in-is, container_in-some}
 use Rattle.deletion_laws.proofs.Keeping.{gone}
 
 some_of : (o : Option Container) (c : Container) (P : Container → Type 0) → o ≡ Some c → IfSome o P → P c

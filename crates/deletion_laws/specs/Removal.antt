@@ -2,7 +2,7 @@
 use Rattle.std.specs.Prelude.{List, Contains, None}
 use Rattle.vault_types.specs.declared.Name.{Name}
 use Rattle.vault_types.specs.Events.{Core, put_by, IsContainerName}
-use Rattle.keeper_parts.specs.Parts.{IsIdle}
+use Rattle.state_laws.specs.Parts.{IsIdle}
 
 -- that the names go is seen by neither the state nor a half done change, and no container of the job has one of them
 abbrev pub AreIdle : Core → List Name → Type 0

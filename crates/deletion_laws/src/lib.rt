@@ -14,7 +14,7 @@ ghost use Rattle.vault_types.specs.Delete.{delete, reclaimed_ids};
 ghost use Rattle.vault_types.specs.Shelf.{Blobs, blob_at, with_blob, floor_name};
 ghost use Rattle.vault_types.specs.Events.{Core, IsCore, IsNear, Held, IsContainerName, put_by, after_delete, after_refused, delete_change, after_release};
 ghost use Rattle.vault_traits.specs.Crash.{LeavesNowIfTold, LeavesOnlyIfTold};
-ghost use Rattle.keeper_parts.specs.Parts.{HeldIfTold, IsIdle, CanClean, with_strays};
+ghost use Rattle.state_laws.specs.Parts.{HeldIfTold, IsIdle, CanClean, with_strays};
 ghost use Rattle.keeper_catalog.specs.Catalog.{set_info, listed, table_at, AreTables, AreMarks};
 ghost use Rattle.deletion_laws.specs.Deleting.{pinned_ids, without_ids, AreStraysAfter};
 ghost use Rattle.deletion_laws.specs.Releasing.{is_released, IsReleased, AreStraysReleased, AreAlike};

@@ -4,7 +4,7 @@
 ghost use Rattle.std.specs.Prelude.{◌≡◌};
 ghost use Rattle.std.specs.Process.{exit_status};
 ghost use Rattle.vault_types.specs.Texts.{status_of};
-ghost use Rattle.run_laws.specs.World.{IsTold};
+ghost use Rattle.store_model.specs.World.{IsTold};
 
 use destor_top::{run_plain, tell};
 use folder_shelf::{ErrSink, FolderPlaces, FolderShelf, InSource, OutSink};

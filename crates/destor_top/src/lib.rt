@@ -3,7 +3,7 @@
 #![tactic(auto)]
 
 ghost use Rattle.std.specs.Prelude.{true, ◌≤◌, map, string_bytes};
-ghost use Rattle.run_laws.specs.Run.{IsRun};
+ghost use Rattle.store_model.specs.Run.{IsRun};
 ghost use Rattle.command_runner.specs.Completes.{IsCompleteRun};
 ghost use Rattle.command_runner.specs.Unbuilt.{Unbuilt};
 

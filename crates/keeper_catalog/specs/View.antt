@@ -5,15 +5,13 @@ use Rattle.vault_types.specs.declared.Name.{Name}
 use Rattle.vault_types.specs.declared.Pending.{Pending}
 use Rattle.vault_types.specs.declared.Pending.TheVariants as pending
 use Rattle.std.specs.List.{AllByRecursion}
-use Rattle.vault_types.specs.State.{State, next_of, all_rows, IsValid}
-use Rattle.vault_types.specs.Bytes.{HasRow}
-use Rattle.vault_types.specs.Shelf.{Blobs, Stands}
+use Rattle.vault_types.specs.State.{State, next_of}
 use Rattle.vault_types.specs.Tables.{Container, IsTable}
 use Rattle.vault_types.specs.Events.{Core, Job, Pin, pinned_containers, IsCore}
 use Rattle.vault_traits.specs.Told.{ShelfTold}
 use Rattle.fp_index.specs.Index.{IsIndexOf}
 use Rattle.restore_pins.specs.Pins.{Listed, AreListsOf}
-use Rattle.keeper_parts.specs.Parts.{HeldIfTold}
+use Rattle.state_laws.specs.Parts.{HeldIfTold}
 use Rattle.keeper_catalog.specs.declared.JobInfo.{JobInfo}
 use Rattle.keeper_catalog.specs.Catalog.{Memo, IsMemoOf}
 
@@ -52,9 +50,3 @@ HasCore v = (K : Core) × Keeps v K
 -- the core of a shelf that was just opened
 abbrev pub opened_core : State → List Name → Core
 opened_core S strays = record { state = S; other = None; pins = []; strays = strays; job = None; pending = pending.Opened }
-
--- the blobs open as the state: they stand for it, and each row has the length that it has in its table
-pub record Opens (m : Blobs) (S : State) : Type 0 where
-  pub stands : Stands m S
-  pub valid : IsValid S
-  pub rows : AllByRecursion (HasRow S.containers) (all_rows S.datasets)

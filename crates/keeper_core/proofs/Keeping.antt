@@ -15,9 +15,9 @@ use Rattle.vault_types.specs.Events.{Core, Change, Job, put_by, put_in, pinned_c
 use Rattle.vault_traits.specs.Told.{ShelfTold}
 use Rattle.fp_index.specs.Index.{IsIndexOf}
 use Rattle.set_markers.specs.SetMarkers.{Marked}
-use Rattle.keeper_parts.specs.Parts.{HeldIfTold, without_other, with_strays}
-use Rattle.keeper_parts.proofs.Changing.{told_more}
-use Rattle.keeper_parts.proofs.Standing.{held_put}
+use Rattle.state_laws.specs.Parts.{HeldIfTold, without_other, with_strays}
+use Rattle.state_laws.proofs.Changing.{told_more}
+use Rattle.state_laws.proofs.Standing.{held_put}
 use Rattle.keeper_catalog.specs.declared.JobInfo.{JobInfo}
 use Rattle.keeper_catalog.specs.declared.SetInfo.{SetInfo}
 use Rattle.keeper_catalog.specs.Catalog.{Memo, set_info, table_at, AreMarkersOf, IsMemoOf}

@@ -6,14 +6,13 @@ use Rattle.std.proofs.lemmas.Bool.Decides.{nat_tests}
 use Rattle.std.proofs.lemmas.List.Elements.{Contains-append_left, Contains-append_right}
 use Rattle.vault_types.specs.Tables.{Container, IsTable}
 use Rattle.vault_types.specs.State.{container_in}
-use Rattle.vault_types.specs.Shelf.{Blobs, payload_name}
+use Rattle.vault_types.specs.Shelf.{Blobs, payload_name, Has}
 use Rattle.vault_types.specs.Events.{Core, Pin, put_by, pinned_containers}
-use Rattle.blob_parts.specs.Causes.{Has}
-use Rattle.keeper_parts.specs.Parts.{HeldIfTold}
+use Rattle.state_laws.specs.Parts.{HeldIfTold}
 use Rattle.keeper_catalog.specs.Catalog.{table_at}
 use Rattle.keeper_catalog.specs.View.{View, Keeps}
 use Rattle.commit_laws.proofs.Listing.{all_at, found_append, found_is}
-use Rattle.deletion_laws.proofs.Members.{first_or_rest}
+use Rattle.state_laws.proofs.Members.{first_or_rest}
 use Rattle.keeper_core.specs.Calls.{Lists}
 
 -- a container in a list is found under its id, or another one of this id

@@ -11,7 +11,7 @@ use Rattle.set_markers.specs.SetMarkers.{AreMarkersOfSets}
 use Rattle.keeper_catalog.specs.Catalog.{table_at}
 use Rattle.keeper_catalog.specs.View.{View, Keeps}
 use Rattle.commit_laws.proofs.Listing.{all_at, found_append, found_is}
-use Rattle.deletion_laws.proofs.Members.{container_in-none, container_in-some}
+use Rattle.state_laws.proofs.Members.{container_in-none, container_in-some}
 use Rattle.deletion_laws.proofs.Marking.{marked_are_named}
 
 module _ (v : View) (K : Core) (keeps : Keeps v K) (id : ℕ) (test : Bool) (tests : (marks : List Mark) → AreMarkersOfSets v.memo.markers marks → test ≡ has id (marked_ids marks)) where

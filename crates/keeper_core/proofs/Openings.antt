@@ -8,13 +8,13 @@ use Rattle.vault_types.specs.declared.Pending.TheVariants.{Opened}
 use Rattle.vault_types.specs.declared.Recipe.{Recipe}
 use Rattle.vault_types.specs.State.{State, KeptVersion, version_of, IsValid}
 use Rattle.vault_types.specs.Blobs.{SpellsRecipe, recipe_bytes}
-use Rattle.vault_types.specs.Shelf.{Blobs, recipe_name, Stands}
+use Rattle.vault_types.specs.Shelf.{Blobs, recipe_name, Stands, Has}
 use Rattle.vault_types.specs.Events.{Core, IsCore}
 use Rattle.vault_traits.specs.Told.{ShelfTold}
-use Rattle.blob_parts.specs.Causes.{Has}
-use Rattle.keeper_parts.specs.Parts.{HeldIfTold}
+use Rattle.state_laws.specs.Parts.{HeldIfTold}
 use Rattle.keeper_catalog.specs.Catalog.{Memo, IsMemoOf}
-use Rattle.keeper_catalog.specs.View.{View, Keeps, Opens, opened_core}
+use Rattle.vault_types.specs.FirstDamage.{Opens}
+use Rattle.keeper_catalog.specs.View.{View, Keeps, opened_core}
 use Rattle.restore_pins.specs.Pins.{Listed, AreListsOf}
 use Rattle.fp_index.specs.Index.{IsIndexOf}
 use Rattle.commit_laws.specs.Laws.{SaysVersion}

@@ -20,7 +20,7 @@ use Rattle.vault_types.specs.Tables.{Container, IsTable, id_of, has_fp, payload_
 use Rattle.vault_types.specs.State.{KeptVersion, version_of, container_in, length_of, named, HasFp}
 use Rattle.vault_types.specs.Bytes.{offset_of, spot_of, HasRow}
 use Rattle.vault_types.specs.Blobs.{SpellsRecipe}
-use Rattle.vault_types.specs.Shelf.{recipe_name}
+use Rattle.vault_types.specs.Shelf.{recipe_name, Has}
 use Rattle.vault_types.specs.Events.{Core, Pin, put_by, pinned_containers, containers_of, with_pins, after_pin, Held}
 use Rattle.vault_types.proofs.GrowLemmas.{container_in-more}
 use Rattle.vault_types.proofs.FillLemmas.{bytes_eq-same}
@@ -29,8 +29,8 @@ use Rattle.vault_traits.specs.Told.{ShelfTold}
 use Rattle.set_markers.specs.SetMarkers.{AreMarkersOfSets}
 use Rattle.restore_pins.specs.Pins.{Listed, numbers, IsListOf, AreListsOf}
 use Rattle.restore_pins.proofs.Callers.{numbers-same, lists-more}
-use Rattle.keeper_parts.proofs.Changing.{told_same}
-use Rattle.keeper_parts.proofs.Growing.{rows_of}
+use Rattle.state_laws.proofs.Changing.{told_same}
+use Rattle.state_laws.proofs.Growing.{rows_of}
 use Rattle.keeper_catalog.specs.Catalog.{listed, AreMarks}
 use Rattle.keeper_catalog.specs.View.{View, Keeps}
 use Rattle.row_spots.specs.Spots.{spot_in, HasPlace, AreRuled}
@@ -39,9 +39,9 @@ use Rattle.commit_laws.specs.Laws.{pin_with, pinned_core}
 use Rattle.commit_laws.proofs.Listing.{all_append, all_of, all_at, found_is}
 use Rattle.commit_laws.proofs.Pinned.{filter_was, pinned_more, pin_core, pin_tables, pin_told}
 use Rattle.commit_laws.proofs.Loading.{pin_ids, pin_list}
-use Rattle.blob_parts.specs.Causes.{Has, IsCause}
+use Rattle.vault_traits.specs.Causes.{IsCause}
 use Rattle.deletion_laws.proofs.Marking.{marked_are_named}
-use Rattle.deletion_laws.proofs.Members.{clash, here, later, first_or_rest, of_map, in_map}
+use Rattle.state_laws.proofs.Members.{clash, here, later, first_or_rest, of_map, in_map}
 use Rattle.deletion_laws.proofs.Pinning.{alike_more}
 use Rattle.keeper_core.specs.Calls.{Lists, HasListed, IsPinned, IsUnplaced, IsBadRow, IsPinDamage, unplaced_fault}
 use Rattle.keeper_core.proofs.Openings.{says_version}

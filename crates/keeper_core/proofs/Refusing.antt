@@ -11,9 +11,9 @@ use Rattle.vault_traits.specs.Crash.{History, LeavesNowIfTold, LeavesOnlyIfTold}
 use Rattle.vault_traits.proofs.Moments.{ends, more, then}
 use Rattle.vault_types.specs.declared.Pending.{Pending}
 use Rattle.vault_traits.specs.Told.{ShelfTold}
-use Rattle.keeper_parts.specs.Parts.{HeldIfTold}
-use Rattle.keeper_parts.proofs.Changing.{latest_low, recipe_same, version_high}
-use Rattle.blob_parts.specs.Causes.{IsStoreFault}
+use Rattle.state_laws.specs.Parts.{HeldIfTold}
+use Rattle.state_laws.proofs.Changing.{latest_low, recipe_same, version_high}
+use Rattle.vault_traits.specs.Causes.{IsStoreFault}
 use Rattle.keeper_catalog.specs.declared.JobInfo.{JobInfo}
 use Rattle.keeper_catalog.specs.View.{View, Keeps}
 use Rattle.keeper_core.specs.Calls.{IsHalf, IsStill, IsShelfFault}

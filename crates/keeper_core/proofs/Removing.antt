@@ -17,7 +17,7 @@ use Rattle.vault_traits.specs.Told.{ShelfTold}
 use Rattle.vault_traits.proofs.Moments.{ends}
 use Rattle.fp_index.specs.Index.{IsIndexOf}
 use Rattle.restore_pins.specs.Pins.{Listed, AreListsOf}
-use Rattle.keeper_parts.specs.Parts.{HeldIfTold}
+use Rattle.state_laws.specs.Parts.{HeldIfTold}
 use Rattle.keeper_catalog.specs.declared.JobInfo.{JobInfo}
 use Rattle.keeper_catalog.specs.declared.SetInfo.{SetInfo}
 use Rattle.keeper_catalog.specs.Catalog.{Memo, set_info, table_at, AreMarkersOf, IsMemoOf}

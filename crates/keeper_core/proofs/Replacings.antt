@@ -16,17 +16,16 @@ use Rattle.vault_types.specs.declared.Why.TheVariants as why
 use Rattle.vault_types.specs.Names.{fp, IsFp}
 use Rattle.vault_types.specs.State.{State, KeptVersion, dataset, floor_of, latest_of, version_of, is_kept, recipe_of, length_of, IsValid}
 use Rattle.vault_types.specs.Blobs.{IsRecipe, SpellsRecipe, recipe_bytes, recipe_bytes_2}
-use Rattle.vault_types.specs.Shelf.{Blobs, recipe_name, floor_name, blob_at}
+use Rattle.vault_types.specs.Shelf.{Blobs, recipe_name, floor_name, blob_at, Has}
 use Rattle.vault_types.specs.Events.{Core, Change, IsCore, IsNear, IsChange, Held, pinned_containers, after_mend, after_refused}
 use Rattle.vault_traits.specs.Told.{ShelfTold}
 use Rattle.vault_traits.specs.Shelf.{blobs_with}
 use Rattle.vault_traits.proofs.Maps.{get_is, other_blob}
-use Rattle.blob_parts.specs.Causes.{Has}
-use Rattle.recipe_store.specs.Damages.{IsRecipeDamage}
-use Rattle.keeper_parts.specs.Parts.{HeldIfTold, without_other}
-use Rattle.keeper_parts.proofs.Changing.{told_more}
-use Rattle.keeper_parts.proofs.Standing.{needs_floor}
-use Rattle.keeper_parts.proofs.Growing.{floor_pos}
+use Rattle.vault_types.specs.BlobDamage.{IsRecipeDamage}
+use Rattle.state_laws.specs.Parts.{HeldIfTold, without_other}
+use Rattle.state_laws.proofs.Changing.{told_more}
+use Rattle.state_laws.proofs.Standing.{needs_floor}
+use Rattle.state_laws.proofs.Growing.{floor_pos}
 use Rattle.keeper_parts.proofs.Telling.{tells_one}
 use Rattle.keeper_catalog.specs.View.{View, Keeps}
 use Rattle.commit_laws.specs.Laws.{SaysVersion}

@@ -18,9 +18,8 @@ use Rattle.vault_types.specs.Lists.{has}
 use Rattle.vault_types.specs.Marks.{Mark, marked_ids}
 use Rattle.vault_types.specs.Tables.{Container, payload_len}
 use Rattle.vault_types.specs.Bytes.{spot_of, HasRow}
-use Rattle.vault_types.specs.Shelf.{Blobs, recipe_name}
-use Rattle.blob_parts.specs.Causes.{Has}
-use Rattle.recipe_store.specs.Damages.{IsRecipeDamage}
+use Rattle.vault_types.specs.Shelf.{Blobs, recipe_name, Has}
+use Rattle.vault_types.specs.BlobDamage.{IsRecipeDamage}
 use Rattle.vault_types.specs.Blobs.{recipe_bytes_1, recipe_bytes_2}
 use Rattle.vault_types.specs.State.{State, KeptVersion, latest_of, next_of, length_of, version_of, recipe_of}
 use Rattle.vault_types.specs.Backup.{inherited_ids}

@@ -11,8 +11,8 @@ ghost use Rattle.vault_traits.specs.Crash.{LeavesNowIfTold, LeavesOnlyIfTold};
 ghost use Rattle.restore_pins.specs.Pins.{numbers, without};
 ghost use Rattle.deletion_laws.specs.Deleting.{IsDeleting};
 ghost use Rattle.deletion_laws.specs.Releasing.{IsReleased};
-ghost use Rattle.keeper_parts.specs.Parts.{HeldIfTold};
-ghost use Rattle.keeper_parts.specs.Recipes.{KeepsRecipes};
+ghost use Rattle.state_laws.specs.Parts.{HeldIfTold};
+ghost use Rattle.vault_types.specs.RecipeForms.{KeepsRecipes};
 ghost use Rattle.keeper_catalog.specs.View.{Keeps};
 ghost use Rattle.keeper_core.specs.Calls.{IsHalf, IsStill, IsDeletionFault};
 

@@ -1,11 +1,11 @@
 //! The events of a job, and mending.
 ghost use Rattle.std.specs.Prelude.{ℕ, ◌≡◌, ◌≢◌, ◌<◌, ◌+◌, ◌^◌, ◌⊎◌, ◌++◌, ◌∷◌, [], Some, None, IsSome, IsSomeAnd, IfOk, IfErr, OnOk, OnErr};
 ghost use Rattle.vault_types.specs.Blobs.{recipe_bytes};
-ghost use Rattle.vault_types.specs.Shelf.{blob_at, recipe_name};
+ghost use Rattle.vault_types.specs.Shelf.{blob_at, recipe_name, Has};
 ghost use Rattle.vault_types.specs.Events.{Core, Job, IsNear, CanCommit, after_begin, after_mend, after_put, after_commit, after_abort, after_refused, committed, commit_change};
 ghost use Rattle.vault_traits.specs.Crash.{LeavesNowIfTold, LeavesOnlyIfTold};
-ghost use Rattle.keeper_parts.specs.Recipes.{KeepsRecipes};
-ghost use Rattle.blob_parts.specs.Causes.{Has, HasCauses, HasStoreFault, IsUndamaged};
+ghost use Rattle.vault_types.specs.RecipeForms.{KeepsRecipes};
+ghost use Rattle.vault_traits.specs.Causes.{HasCauses, HasStoreFault, IsUndamaged};
 ghost use Rattle.commit_laws.specs.Laws.{AreStraysLeft};
 ghost use Rattle.keeper_catalog.specs.View.{Keeps, HasCore};
 ghost use Rattle.keeper_jobs.specs.Jobs.{names_of, version_by};

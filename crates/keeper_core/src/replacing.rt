@@ -3,11 +3,11 @@ ghost use Rattle.std.specs.Prelude.{◌≡◌, ◌≢◌, ◌≤◌, ◌⊎◌, 
 ghost use Rattle.vault_types.specs.Names.{fp, IsFp};
 ghost use Rattle.vault_types.specs.State.{KeptVersion, latest_of, version_of, recipe_of, is_kept};
 ghost use Rattle.vault_types.specs.Blobs.{recipe_bytes_2};
-ghost use Rattle.vault_types.specs.Shelf.{recipe_name, blob_at};
+ghost use Rattle.vault_types.specs.Shelf.{recipe_name, blob_at, Has};
 ghost use Rattle.vault_types.specs.Events.{Core, IsNear, after_mend};
 ghost use Rattle.vault_traits.specs.Crash.{LeavesNowIfTold, LeavesOnlyIfTold};
-ghost use Rattle.blob_parts.specs.Causes.{Has, HasCauses};
-ghost use Rattle.recipe_store.specs.Damages.{IsRecipeDamage};
+ghost use Rattle.vault_traits.specs.Causes.{HasCauses};
+ghost use Rattle.vault_types.specs.BlobDamage.{IsRecipeDamage};
 ghost use Rattle.keeper_catalog.specs.View.{Keeps};
 ghost use Rattle.keeper_core.specs.Replacing.{IsRefused, IsDueAfter};
 

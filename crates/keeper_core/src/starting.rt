@@ -5,10 +5,10 @@ ghost use Rattle.vault_types.specs.declared.Name.{Name as Named};
 ghost use Rattle.vault_types.specs.State.{State, KeptVersion, IsValid, length_of, version_of};
 ghost use Rattle.vault_types.specs.Shelf.{Stands};
 ghost use Rattle.vault_types.specs.Events.{Core};
-ghost use Rattle.blob_parts.specs.Causes.{HasCauses, IsCause};
-ghost use Rattle.recipe_store.specs.Damages.{IsRecipeDamage};
-ghost use Rattle.keeper_open.specs.Damage.{IsDamageOf};
-ghost use Rattle.keeper_catalog.specs.View.{Keeps, Opens, opened_core};
+ghost use Rattle.vault_traits.specs.Causes.{HasCauses, IsCause};
+ghost use Rattle.vault_types.specs.BlobDamage.{IsRecipeDamage};
+ghost use Rattle.vault_types.specs.FirstDamage.{IsDamageOf, Opens};
+ghost use Rattle.keeper_catalog.specs.View.{Keeps, opened_core};
 ghost use Rattle.commit_laws.specs.Laws.{SaysVersion};
 ghost use Rattle.keeper_core.specs.Calls.{IsWholeOf};
 

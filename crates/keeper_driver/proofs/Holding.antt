@@ -12,7 +12,7 @@ use Rattle.restore_pins.specs.Pins.{numbers}
 use Rattle.restore_pins.proofs.Callers.{numbers-same}
 use Rattle.keeper_catalog.specs.View.{View, Keeps}
 use Rattle.commit_laws.proofs.Listing.{all_weaker}
-use Rattle.deletion_laws.proofs.Members.{clash, in_map, filter_contains}
+use Rattle.state_laws.proofs.Members.{clash, in_map, filter_contains}
 use Rattle.keeper_core.specs.Calls.{HasListed}
 use Rattle.keeper_driver.specs.Drafts.{IsIdle}
 use Rattle.keeper_driver.specs.Pinning.{IsPinning}

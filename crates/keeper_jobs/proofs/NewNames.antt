@@ -12,9 +12,9 @@ use Rattle.vault_types.specs.Shelf.{Blobs, table_name, payload_name}
 use Rattle.vault_types.specs.Events.{Core, Held, put_by, pinned_containers, IsCore, IsContainerName, IsNeeded}
 use Rattle.vault_types.proofs.NextLemmas.{ids_below}
 use Rattle.keeper_jobs.specs.Jobs.{Puts, names_of}
-use Rattle.keeper_parts.specs.Parts.{HeldIfTold, IsSpare, IsFree, with_strays}
-use Rattle.keeper_parts.proofs.Standing.{needs_beside, held_more}
-use Rattle.keeper_parts.proofs.Changing.{told_more, recipe_no_table, recipe_no_payload, floor_no_table, floor_no_payload}
+use Rattle.state_laws.specs.Parts.{HeldIfTold, IsSpare, IsFree, with_strays}
+use Rattle.state_laws.proofs.Standing.{needs_beside, held_more}
+use Rattle.state_laws.proofs.Changing.{told_more, recipe_no_table, recipe_no_payload, floor_no_table, floor_no_payload}
 
 all_at : (P : Container → Type 0) (cs : List Container) (c : Container) → AllByRecursion P cs → Contains cs c → P c
 all_at P [] c all h = absurd (omega (arith, h.1))

@@ -9,8 +9,8 @@ use Rattle.vault_types.specs.declared.Pending.TheVariants.{Not, Opened, FailedFo
 use Rattle.vault_types.specs.State.{State, Dataset, KeptVersion, dataset, empty_dataset, floor_of, latest_of, IsDataset, IsValid}
 use Rattle.vault_types.specs.Shelf.{recipe_name}
 use Rattle.vault_types.specs.Events.{Core, Change, IsChange}
-use Rattle.keeper_parts.specs.Parts.{Mends, IsOf}
-use Rattle.keeper_parts.proofs.Changing.{recipe_same, latest_low}
+use Rattle.state_laws.specs.Parts.{Mends, IsOf}
+use Rattle.state_laws.proofs.Changing.{recipe_same, latest_low}
 use Rattle.keeper_catalog.specs.declared.SetInfo.{SetInfo}
 use Rattle.keeper_catalog.specs.Catalog.{set_info}
 use Rattle.keeper_jobs.specs.Jobs.{mended_by, Sees}

@@ -17,21 +17,20 @@ use Rattle.vault_types.specs.Lists.{has}
 use Rattle.vault_types.specs.Blobs.{recipe_bytes}
 use Rattle.vault_types.specs.Tables.{Container, id_of}
 use Rattle.vault_types.specs.State.{next_of}
-use Rattle.vault_types.specs.Shelf.{Blobs, blob_at, kind_rank, same_name, table_name, payload_name, recipe_name}
+use Rattle.vault_types.specs.Shelf.{Blobs, blob_at, kind_rank, same_name, table_name, payload_name, recipe_name, Has}
 use Rattle.vault_types.specs.Events.{Core, Change, Job, pinned_containers, IsContainerName, IsNeeded, IsCore, CanCommit, Held, committed, commit_change, after_commit, after_refused}
 use Rattle.vault_traits.specs.Shelf.{blobs_with}
 use Rattle.vault_traits.proofs.Maps.{get_is, other_blob}
-use Rattle.blob_parts.specs.Causes.{Has}
-use Rattle.keeper_parts.specs.Parts.{HeldIfTold, CanChange, change, with_strays}
-use Rattle.keeper_parts.proofs.Changing.{told_more, told_same, next_unneeded}
-use Rattle.keeper_parts.proofs.Standing.{held_more}
+use Rattle.state_laws.specs.Parts.{HeldIfTold, CanChange, change, with_strays}
+use Rattle.state_laws.proofs.Changing.{told_more, told_same, next_unneeded}
+use Rattle.state_laws.proofs.Standing.{held_more}
 use Rattle.keeper_catalog.specs.declared.JobInfo.{JobInfo}
 use Rattle.keeper_catalog.specs.Catalog.{Memo}
 use Rattle.commit_laws.specs.Laws.{AreStraysLeft}
 use Rattle.commit_laws.proofs.Committing.{job_ids, job_alone, job_low}
 use Rattle.commit_laws.proofs.Listing.{all_at}
 use Rattle.commit_laws.proofs.Holding.{commit_told, commit_can, change_is, half_told, refused_held}
-use Rattle.deletion_laws.proofs.Members.{filter_contains, filter_passed, filter_within, of_map}
+use Rattle.state_laws.proofs.Members.{filter_contains, filter_passed, filter_within, of_map}
 use Rattle.keeper_jobs.specs.Jobs.{is_of_container, is_committed, uncommitted, Commits, version_by}
 use Rattle.keeper_jobs.proofs.Commits.{first_is, next_is, set_is}
 

@@ -4,16 +4,15 @@ ghost use Rattle.std.specs.List.{AllByRecursion};
 ghost use Rattle.vault_types.specs.declared.Table.{Table as TableOf};
 ghost use Rattle.vault_types.specs.declared.Name.{Name as Named};
 ghost use Rattle.vault_types.specs.Blobs.{recipe_bytes};
-ghost use Rattle.vault_types.specs.Shelf.{blob_at, recipe_name};
+ghost use Rattle.vault_types.specs.Shelf.{blob_at, recipe_name, Has};
 ghost use Rattle.vault_types.specs.Events.{Core, Job, IsNear, after_commit, after_refused, committed, commit_change};
 ghost use Rattle.vault_types.specs.declared.Pending.{Pending as Pendings};
 ghost use Rattle.vault_types.specs.declared.Pending.TheVariants as pending;
 ghost use Rattle.fp_index.specs.Index.{IsIndexOf};
 ghost use Rattle.vault_traits.specs.Counts.{Rose};
 ghost use Rattle.vault_traits.specs.Crash.{LeavesNowIfTold, LeavesOnlyIfTold};
-ghost use Rattle.blob_parts.specs.Causes.{Has};
 ghost use Rattle.commit_laws.specs.Laws.{AreStraysLeft};
-ghost use Rattle.keeper_parts.specs.Parts.{HeldIfTold};
+ghost use Rattle.state_laws.specs.Parts.{HeldIfTold};
 ghost use Rattle.keeper_catalog.specs.Catalog.{memo_of, table_at, IsMemoOf, HasRoom};
 ghost use Rattle.keeper_jobs.specs.Jobs.{tables_from, AreKeyed, Commits, version_by};
 

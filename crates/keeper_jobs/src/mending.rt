@@ -4,8 +4,8 @@ ghost use Rattle.vault_types.specs.State.{latest_of};
 ghost use Rattle.vault_types.specs.Shelf.{blob_at, recipe_name};
 ghost use Rattle.vault_types.specs.Events.{Core, IsNear};
 ghost use Rattle.vault_traits.specs.Crash.{LeavesNowIfTold, LeavesOnlyIfTold};
-ghost use Rattle.blob_parts.specs.Causes.{HasStoreFault};
-ghost use Rattle.keeper_parts.specs.Parts.{HeldIfTold, without_other};
+ghost use Rattle.vault_traits.specs.Causes.{HasStoreFault};
+ghost use Rattle.state_laws.specs.Parts.{HeldIfTold, without_other};
 ghost use Rattle.keeper_jobs.specs.Jobs.{mended_by, Sees};
 
 use keeper_catalog::SetInfo;

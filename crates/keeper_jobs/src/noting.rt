@@ -65,7 +65,9 @@ pub fn prepare(
     make_room(catalog, 1)?;
     let blob = encode_recipe(alloc, recipe)?;
     add_tables(alloc, index, &catalog.tables, job.first, job.next)?;
-    let _ = catalog.strays.push(Name::recipe(recipe.set, recipe.version));
+    let _ = catalog
+        .strays
+        .push(Name::recipe(recipe.set, recipe.version));
     Ok((ids, blob))
 }
 

@@ -3,8 +3,8 @@ ghost use Rattle.std.specs.Prelude.{◌≡◌, ◌<◌, ◌≤◌, ◌⊎◌, �
 ghost use Rattle.vault_types.specs.Shelf.{HasContainer, blob_at, recipe_name};
 ghost use Rattle.vault_types.specs.Events.{Core, IsNear};
 ghost use Rattle.vault_traits.specs.Crash.{LeavesNowIfTold, LeavesOnlyIfTold};
-ghost use Rattle.blob_parts.specs.Causes.{HasCauses, IsUndamaged};
-ghost use Rattle.keeper_parts.specs.Parts.{HeldIfTold, with_strays};
+ghost use Rattle.vault_traits.specs.Causes.{HasCauses, IsUndamaged};
+ghost use Rattle.state_laws.specs.Parts.{HeldIfTold, with_strays};
 ghost use Rattle.keeper_catalog.specs.Catalog.{memo_of, table_at, HasRoom};
 ghost use Rattle.keeper_jobs.specs.Jobs.{names_of, Puts};
 

@@ -14,11 +14,12 @@ use Rattle.vault_types.proofs.SetLemmas.{IsAscending-set_of}
 use Rattle.vault_traits.specs.Shelf.{IsListing}
 use Rattle.fp_index.specs.Index.{IsIndexOf}
 use Rattle.set_markers.specs.SetMarkers.{Marked, AreMarkersOfSets}
-use Rattle.keeper_parts.specs.Parts.{HeldIfTold}
+use Rattle.state_laws.specs.Parts.{HeldIfTold}
 use Rattle.keeper_catalog.specs.declared.SetInfo.{SetInfo}
 use Rattle.keeper_catalog.specs.declared.Catalog.{Catalog}
 use Rattle.keeper_catalog.specs.Catalog.{memo_of, table_at, HasRoom}
-use Rattle.keeper_catalog.specs.View.{opened_core, Opens}
+use Rattle.vault_types.specs.FirstDamage.{Opens}
+use Rattle.keeper_catalog.specs.View.{opened_core}
 use Rattle.keeper_open.specs.declared.notes.Chunk.{Chunk}
 use Rattle.keeper_open.specs.declared.notes.Notes.{Notes}
 use Rattle.keeper_open.specs.declared.reading.Found.{Found}

@@ -12,11 +12,11 @@ use Rattle.vault_types.specs.declared.Why.TheVariants as why
 use Rattle.vault_types.specs.declared.Recipe.{Recipe}
 use Rattle.vault_types.specs.Blobs.{SpellsFloor, IsVersion}
 use Rattle.vault_types.specs.Shelf.{Blobs, recipe_name, floor_name}
-use Rattle.recipe_store.specs.Damages.{IsFloorIn, IsRecipeWhy}
+use Rattle.vault_types.specs.BlobDamage.{IsFloorIn, IsRecipeWhy}
 use Rattle.recipe_store.proofs.Apart.{recipes_apart, floors_apart}
 use Rattle.keeper_catalog.specs.declared.SetInfo.{SetInfo}
 use Rattle.keeper_open.specs.declared.notes.Notes.{Notes}
-use Rattle.keeper_open.specs.Damage.{ReadsRecipe, IsListedFrom, IsDueFrom, IsDue, IsAfter, IsGoodRecipe, IsBefore, FloorsBefore, RecipesBefore, IsLower, IsRecipeFirst, IsFirstDamage, IsDamageOf}
+use Rattle.vault_types.specs.FirstDamage.{ReadsRecipe, IsListedFrom, IsDueFrom, IsDue, IsAfter, IsGoodRecipe, IsBefore, FloorsBefore, RecipesBefore, IsLower, IsRecipeFirst, IsFirstDamage, IsDamageOf}
 use Rattle.keeper_open.specs.Reading.{SetRead, AreFloors, AreRead, IsLastDue, IsSetRead, IsVersionWhy, IsVersionDamage, IsSetDamage, IsSetFirst, AreSets, last_next}
 use Rattle.keeper_open.proofs.Gathering.{AreFirstSets, floors_before, some_at, at_below, recipe_read, rising_at, last_at, set_at}
 

@@ -24,16 +24,15 @@ use Rattle.vault_types.specs.declared.Table.{Table}
 use Rattle.vault_types.specs.Lists.{EachNext, IsAscending, set_of}
 use Rattle.vault_types.specs.Shelf.{Blobs, recipe_name}
 use Rattle.vault_traits.specs.Counts.{Rose}
-use Rattle.blob_parts.specs.Causes.{IsCause, HasCauses}
-use Rattle.container_store.specs.Damages.{IsTableDamage, IsTableWhy}
-use Rattle.recipe_store.specs.Damages.{IsFloorIn, IsFloorDamage, IsFloorWhy}
+use Rattle.vault_traits.specs.Causes.{IsCause, HasCauses}
+use Rattle.vault_types.specs.BlobDamage.{IsTableDamage, IsTableWhy, IsFloorIn, IsFloorDamage, IsFloorWhy}
 use Rattle.fp_index.specs.Index.{IsIndexOf}
 use Rattle.keeper_catalog.specs.declared.SetInfo.{SetInfo}
 use Rattle.keeper_catalog.specs.Catalog.{table_at}
 use Rattle.keeper_open.specs.declared.notes.Chunk.{Chunk}
-use Rattle.keeper_open.specs.declared.notes.Place.{Place}
+use Rattle.keeper_open.specs.declared.notes.RowPlace.{RowPlace}
 use Rattle.keeper_open.specs.declared.notes.Notes.{Notes}
-use Rattle.keeper_open.specs.Damage.{ReadsRecipe, ReadsTable, IsDueFrom, FloorsBefore, IsOpeningWhy, IsDamageOf}
+use Rattle.vault_types.specs.FirstDamage.{ReadsRecipe, ReadsTable, IsDueFrom, FloorsBefore, IsOpeningWhy, IsDamageOf}
 use Rattle.keeper_open.specs.Reading.{SetRead, AreFloors, AreRecipes, AreRead, IsLastDue, IsSetRead, IsVersionDamage, IsVersionWhy, IsSetDamage, IsSetFirst, AreSets, AreTables, last_next, last_sparse, number_of, AreBelow, NotesMore, AreNoted, all_recipes, same_chunk, has_chunk, some_has, left_of, IsFirstTable}
 use Rattle.keeper_open.proofs.Noting.{cons_cases, first_in, later_in, none_in}
 
@@ -79,7 +78,7 @@ pub record AreFirstSets (told : Option Blobs) (infos : List SetInfo) (number : �
   pub noted : AreNoted old [] → AreNoted new (all_recipes ds)
 
 -- the first tables
-pub record AreFirstTables (told : Option Blobs) (ids : List ℕ) (tables : List (ℕ × Table)) (found : List (Fp × List ℕ)) (old new : List (Chunk × Place)) (ts : List Table) : Type 0 where
+pub record AreFirstTables (told : Option Blobs) (ids : List ℕ) (tables : List (ℕ × Table)) (found : List (Fp × List ℕ)) (old new : List (Chunk × RowPlace)) (ts : List Table) : Type 0 where
   pub read : AreTables told ts
   pub of : map (λ t. t.id) ts ≡ ids
   pub at : (c : ℕ) → table_at tables c ≡ find (λ t. t.id == c) ts
@@ -336,13 +335,13 @@ find_push (u ∷ ts) t c low false is = ap (cond (u.id == c) (Some u)) (find_pus
 at_is : (id c : ℕ) → is_at (nat_cmp id) c ≡ (id == c)
 at_is id c = grind (arith, nat_tests)
 
-left_twice : (a b : Bool) (o : Option Place) → left_of b (left_of a o) ≡ left_of (a || (b || false)) o
+left_twice : (a b : Bool) (o : Option RowPlace) → left_of b (left_of a o) ≡ left_of (a || (b || false)) o
 left_twice true true o = refl
 left_twice true false o = refl
 left_twice false true o = refl
 left_twice false false o = refl
 
-pub table_more : (told : Option Blobs) (ids : List ℕ) (i d : ℕ) (tables news : List (ℕ × Table)) (found more : List (Fp × List ℕ)) (first old new : List (Chunk × Place)) (ts : List Table) (t : Table)
+pub table_more : (told : Option Blobs) (ids : List ℕ) (i d : ℕ) (tables news : List (ℕ × Table)) (found more : List (Fp × List ℕ)) (first old new : List (Chunk × RowPlace)) (ts : List Table) (t : Table)
     → IsAscending ids → i < length ids → AreFirstTables told (take i ids) tables found first old ts → ReadsTable told (get_or ids i d) t
     → ((c : ℕ) → table_at news c ≡ cond (is_at (nat_cmp (get_or ids i d)) c) (Some t) (table_at tables c)) → IsIndexOf more (ts ++ t ∷ [])
     → ((k : Chunk) → lookup (same_chunk k) new ≡ left_of (has_chunk (get_or ids i d) t.rows k) (lookup (same_chunk k) old))
@@ -360,7 +359,7 @@ table_more told ids i d tables news found more first old new ts t up below was r
           ∙ ap (λ b. left_of b (lookup (same_chunk k) first)) (sym (list_any-append (λ (u : Table). has_chunk u.id u.rows k) ts (t ∷ [])));
     }
 
-pub table_damage : (told now : Option Blobs) (ids : List ℕ) (i d : ℕ) (tables : List (ℕ × Table)) (found : List (Fp × List ℕ)) (first old : List (Chunk × Place)) (ts : List Table) → now ≡ told
+pub table_damage : (told now : Option Blobs) (ids : List ℕ) (i d : ℕ) (tables : List (ℕ × Table)) (found : List (Fp × List ℕ)) (first old : List (Chunk × RowPlace)) (ts : List Table) → now ≡ told
     → IsAscending ids → i < length ids → AreFirstTables told (take i ids) tables found first old ts → (k : Kind) (n : ℕ) (w : Why) → IsTableDamage now (get_or ids i d) k n w → IsFirstTable told ids k n w
 table_damage told now ids i d tables found first old ts same up below was kind.Payload n w damage = damage
 table_damage told now ids i d tables found first old ts same up below was kind.Floor n w damage = damage

@@ -18,7 +18,7 @@ use Rattle.vault_types.specs.Shelf.{Blobs, name_cmp, table_name, payload_name, r
 use Rattle.vault_types.specs.Events.{IsContainerName, IsRecipeName, IsFloorName, IsNeeded, Held}
 use Rattle.vault_traits.specs.Shelf.{IsListing}
 use Rattle.vault_traits.proofs.Maps.{exact_names}
-use Rattle.keeper_parts.specs.Parts.{HeldIfTold}
+use Rattle.state_laws.specs.Parts.{HeldIfTold}
 use Rattle.keeper_catalog.specs.declared.SetInfo.{SetInfo}
 use Rattle.keeper_catalog.specs.Catalog.{table_at}
 use Rattle.keeper_catalog.specs.View.{opened_core}

@@ -16,8 +16,8 @@ use Rattle.blob_parts.proofs.Fields.{blob_same}
 use Rattle.container_store.proofs.TableLemmas.{has_widths}
 use Rattle.container_store.proofs.TableField.{table_field}
 use Rattle.keeper_open.specs.declared.notes.Chunk.{Chunk}
-use Rattle.keeper_open.specs.declared.notes.Place.{Place}
-use Rattle.keeper_open.specs.Damage.{ReadsRecipe, ReadsTable, IsDue, IsRowAt, IsNamed, IsInTable, IsBefore, FloorsBefore, RecipesBefore, TablesBefore, RowsBefore, AreRecipesGood, AreTablesGood, IsFirstDamage, IsOpeningWhy, IsDamageOf}
+use Rattle.keeper_open.specs.declared.notes.RowPlace.{RowPlace}
+use Rattle.vault_types.specs.FirstDamage.{ReadsRecipe, ReadsTable, IsDue, IsRowAt, IsNamed, IsInTable, IsBefore, FloorsBefore, RecipesBefore, TablesBefore, RowsBefore, AreRecipesGood, AreTablesGood, IsFirstDamage, IsOpeningWhy, IsDamageOf}
 use Rattle.keeper_open.specs.Reading.{SetRead, AreFloors, IsSetRead, AreSets, AreTables, all_recipes, rows_of, chunk_of, same_chunk, number_of, placed, AreFirst, IsNotAfter, some_has, left_of, IsFirstTable}
 use Rattle.keeper_open.proofs.Noting.{none_in, not_after_trans}
 use Rattle.keeper_open.proofs.Gathering.{at_below, in_place, place_of, recipe_read, set_at, all_in, mapped_in, floors_before}
@@ -32,7 +32,7 @@ table_unique m id t u one two =
     (blob_same table_field 0 t u [] (has_widths t one.2.rules) (has_widths u two.2.rules) (ap (λ (x : List ℕ). x ++ []) (sym one.2.spelled) ∙ append-nil one.0 ∙ same ∙ two.2.spelled)).0
 
 abbrev Entries : Type 0
-Entries = List (Chunk × Place)
+Entries = List (Chunk × RowPlace)
 
 abbrev pub ids_in : List SetRead → List ℕ
 ids_in ds = set_of (map (λ r. r.id) (rows_of (all_recipes ds)))
@@ -46,12 +46,12 @@ rows_all ds ts places left first is none row there =
     let found = first.first (chunk_of row) (record { number = number_of of.0; row = 0 + place.0 }) (placed_recipe_row (all_recipes ds) of.0 place.0 row of.1 place.1) in
     by_test found.0 (some_has ts (chunk_of row)) (sym (none (chunk_of row)) ∙ is (chunk_of row) ∙ ap (left_of (some_has ts (chunk_of row))) found.1)
   where
-    by_test : (q : Place) (b : Bool) → None ≡ left_of b (Some q) → b ≡ true
+    by_test : (q : RowPlace) (b : Bool) → None ≡ left_of b (Some q) → b ≡ true
     by_test q true e = refl
-    by_test q false e = let clash : ◌≡◌ {A = Option Place} None (Some q) = e in cc
+    by_test q false e = let clash : ◌≡◌ {A = Option RowPlace} None (Some q) = e in cc
 
 -- a place that is not after a later one
-too_late : (p : Place) (n s v i t w j : ℕ) → n ≡ t * 2 ^ 32 + w → p.number ≡ s * 2 ^ 32 + v → p.row ≡ i → w ≤ 4294967294 → IsBefore t w s v ⊎ ((t ≡ s) × (w ≡ v) × (j < i)) → IsNotAfter p (record { number = n; row = 0 + j }) → ⊥
+too_late : (p : RowPlace) (n s v i t w j : ℕ) → n ≡ t * 2 ^ 32 + w → p.number ≡ s * 2 ^ 32 + v → p.row ≡ i → w ≤ 4294967294 → IsBefore t w s v ⊎ ((t ≡ s) × (w ≡ v) × (j < i)) → IsNotAfter p (record { number = n; row = 0 + j }) → ⊥
 too_late p n s v i t w j same number at last before after = ⊎_elim
     (λ (lower : p.number < n). ⊎_elim
     (λ earlier. ⊎_elim
@@ -153,9 +153,9 @@ module _ (m : Blobs) (ds : List SetRead) (read : AreSets (Some m) 0 ds) (count :
           is_has ts row t.0 t.1 t.2 (subst (λ (u : Table). Contains u.rows (record { fp = row.fp; len = row.len })) same is.2)
 
       module _ (places left : Entries) (first : AreFirst places (placed (all_recipes ds))) (is : (k : Chunk) → lookup (same_chunk k) left ≡ left_of (some_has ts k) (lookup (same_chunk k) places))
-          (p : Place) (k : Chunk) (here : lookup (same_chunk k) left ≡ Some p) (least : (k : Chunk) (q : Place) → lookup (same_chunk k) left ≡ Some q → IsNotAfter p q) where
-        stays : (b : Bool) (o : Option Place) → left_of b o ≡ Some p → (b ≡ false) × (o ≡ Some p)
-        stays true o e = absurd (let clash : ◌≡◌ {A = Option Place} None (Some p) = e in cc)
+          (p : RowPlace) (k : Chunk) (here : lookup (same_chunk k) left ≡ Some p) (least : (k : Chunk) (q : RowPlace) → lookup (same_chunk k) left ≡ Some q → IsNotAfter p q) where
+        stays : (b : Bool) (o : Option RowPlace) → left_of b o ≡ Some p → (b ≡ false) × (o ≡ Some p)
+        stays true o e = absurd (let clash : ◌≡◌ {A = Option RowPlace} None (Some p) = e in cc)
         stays false o e = (refl, e)
 
         bad : (some_has ts k ≡ false) × (lookup (same_chunk k) places ≡ Some p)
@@ -213,7 +213,7 @@ table_damage_of (Some m) now fs ds ids same floors all read count of k n w first
     table_first m ds read count fs floors all k n w (subst (λ (l : List ℕ). IsFirstTable (Some m) l k n w) of (subst (λ (t : Option Blobs). IsFirstTable t ids k n w) same first))
 
 pub row_damage_of : (told : Option Blobs) (fs : List ℕ) (ds : List SetRead) (ts : List Table) (places left : Entries) → AreFloors told 0 fs → length fs ≡ 256 → AreSets told 0 ds → length ds ≡ 256 → AreTables told ts → map (λ t. t.id) ts ≡ ids_in ds
-    → AreFirst places (placed (all_recipes ds)) → ((k : Chunk) → lookup (same_chunk k) left ≡ left_of (some_has ts k) (lookup (same_chunk k) places)) → (p : Place) → (k : Chunk) × (lookup (same_chunk k) left ≡ Some p)
-    → ((k : Chunk) (q : Place) → lookup (same_chunk k) left ≡ Some q → IsNotAfter p q) → IsDamageOf told kind.Recipe p.number (why.BadRow p.row)
+    → AreFirst places (placed (all_recipes ds)) → ((k : Chunk) → lookup (same_chunk k) left ≡ left_of (some_has ts k) (lookup (same_chunk k) places)) → (p : RowPlace) → (k : Chunk) × (lookup (same_chunk k) left ≡ Some p)
+    → ((k : Chunk) (q : RowPlace) → lookup (same_chunk k) left ≡ Some q → IsNotAfter p q) → IsDamageOf told kind.Recipe p.number (why.BadRow p.row)
 row_damage_of None fs ds ts places left floors all read count tables ids first is p here least = tt
 row_damage_of (Some m) fs ds ts places left floors all read count tables ids first is p here least = row_first m ds read count fs floors all ts tables ids places left first is p here.0 here.1 least

@@ -19,11 +19,9 @@ use Rattle.vault_types.specs.State.{State, Dataset, KeptVersion, empty_dataset, 
 use Rattle.vault_types.specs.Bytes.{HasRow}
 use Rattle.vault_types.specs.Blobs.{floor_bytes, recipe_bytes_1, recipe_bytes_2, table_bytes, IsVersion, IsRecipe, SpellsFloor, SpellsRecipe, SpellsTable}
 use Rattle.vault_types.specs.Shelf.{Blobs, floor_name, recipe_name, table_name, IsFloorBlob, IsRecipeBlob}
-use Rattle.recipe_store.specs.Damages.{IsFloorIn, IsFloorWhy, IsRecipeWhy}
-use Rattle.container_store.specs.Damages.{IsTableWhy}
-use Rattle.keeper_parts.proofs.Growing.{rows_of}
-use Rattle.keeper_catalog.specs.View.{Opens}
-use Rattle.keeper_open.specs.Damage.{ReadsRecipe, ReadsTable, IsDue, IsRowAt, IsNamed, IsInTable, IsLower, IsRecipeFirst, IsFirstDamage}
+use Rattle.vault_types.specs.BlobDamage.{IsFloorIn, IsFloorWhy, IsRecipeWhy, IsTableWhy}
+use Rattle.state_laws.proofs.Growing.{rows_of}
+use Rattle.vault_types.specs.FirstDamage.{Opens, ReadsRecipe, ReadsTable, IsDue, IsRowAt, IsNamed, IsInTable, IsLower, IsRecipeFirst, IsFirstDamage}
 use Rattle.keeper_open.proofs.Gathering.{some_at, at_below, in_place, all_in}
 use Rattle.keeper_open.proofs.Noting.{cons_cases, first_in, later_in, none_in}
 use Rattle.keeper_open.proofs.Damaging.{floor_unique, recipe_unique}

@@ -23,7 +23,7 @@ use Rattle.vault_types.proofs.FillLemmas.{same_fps, bytes_eq-same}
 use Rattle.vault_types.proofs.SetLemmas.{has-set_of, has-with_number, IsAscending-with_number, IsAscending-set_of, ascending_unique}
 use Rattle.keeper_catalog.proofs.Ids.{insert_is}
 use Rattle.keeper_open.specs.declared.notes.Chunk.{Chunk}
-use Rattle.keeper_open.specs.declared.notes.Place.{Place}
+use Rattle.keeper_open.specs.declared.notes.RowPlace.{RowPlace}
 use Rattle.keeper_open.specs.Reading.{rows_of, marks_in, chunk_of, same_chunk, placed_rows, number_of, placed, IsNotAfter, IsLesserOf, AreFirst, ArePlacesBefore, AreBelow, has_chunk, left_of}
 
 -- elements
@@ -68,19 +68,19 @@ chunk_self a = ap (λ b. b && (nat_eq a.id a.id && nat_eq a.len a.len)) (bytes_e
 -- the first places
 
 abbrev Places : Type 0
-Places = List (Chunk × Place)
+Places = List (Chunk × RowPlace)
 
 abbrev Entries : Type 0
-Entries = List (Chunk × Place)
+Entries = List (Chunk × RowPlace)
 
 pub nothing_first : AreFirst [] []
-nothing_first = record { sound = λ k p is. absurd (let clash : ◌≡◌ {A = Option Place} None (Some p) = is in cc); first = λ k p there. absurd (none_in (k, p) there) }
+nothing_first = record { sound = λ k p is. absurd (let clash : ◌≡◌ {A = Option RowPlace} None (Some p) = is in cc); first = λ k p there. absurd (none_in (k, p) there) }
 
-not_after_itself : (p : Place) → IsNotAfter p p
+not_after_itself : (p : RowPlace) → IsNotAfter p p
 not_after_itself p = inr (refl, omega arith)
 
 -- a chunk that has a place keeps it
-pub kept_first : (es : Entries) (before : Places) (k : Chunk) (p : Place) → AreFirst es before → ArePlacesBefore before p → IsSome (lookup (same_chunk k) es) → AreFirst es (before ++ (k, p) ∷ [])
+pub kept_first : (es : Entries) (before : Places) (k : Chunk) (p : RowPlace) → AreFirst es before → ArePlacesBefore before p → IsSome (lookup (same_chunk k) es) → AreFirst es (before ++ (k, p) ∷ [])
 kept_first es before k p was below there = record {
   sound = λ j q is. Contains-append_left before ((k, p) ∷ []) (j, q) (was.sound j q is);
   first = λ j q at. ⊎_elim
@@ -89,32 +89,32 @@ kept_first es before k p was below there = record {
       (Contains-push_cases before (k, p) (j, q) at);
 }
   where
-    by_found : (o : Option Place) → lookup (same_chunk k) es ≡ o → IsSome o → (j : Chunk) (q : Place) → ◌≡◌ {A = Chunk × Place} (k, p) (j, q) → (r : Place) × (lookup (same_chunk j) es ≡ Some r) × IsNotAfter r q
+    by_found : (o : Option RowPlace) → lookup (same_chunk k) es ≡ o → IsSome o → (j : Chunk) (q : RowPlace) → ◌≡◌ {A = Chunk × RowPlace} (k, p) (j, q) → (r : RowPlace) × (lookup (same_chunk j) es ≡ Some r) × IsNotAfter r q
     by_found None is none j q new = absurd (let clash : false ≡ true = none in cc)
     by_found (Some r) is some j q new =
-        (r, ap (λ (e : Chunk × Place). lookup (same_chunk e.0) es) (sym new) ∙ is, subst (λ (e : Chunk × Place). IsNotAfter r e.1) new (below (k, r) (was.sound k r is)))
+        (r, ap (λ (e : Chunk × RowPlace). lookup (same_chunk e.0) es) (sym new) ∙ is, subst (λ (e : Chunk × RowPlace). IsNotAfter r e.1) new (below (k, r) (was.sound k r is)))
 
 -- one that has none is given one
-pub new_first : (es fs : Entries) (before : Places) (k : Chunk) (p : Place) → AreFirst es before → lookup (same_chunk k) es ≡ None
+pub new_first : (es fs : Entries) (before : Places) (k : Chunk) (p : RowPlace) → AreFirst es before → lookup (same_chunk k) es ≡ None
     → ((j : Chunk) → lookup (same_chunk j) fs ≡ cond (same_chunk k j) (Some p) (lookup (same_chunk j) es)) → AreFirst fs (before ++ (k, p) ∷ [])
 new_first es fs before k p was none update = record {
   sound = λ j q is. by_sound j q (same_chunk k j) refl (sym (update j) ∙ is);
   first = λ j q at. ⊎_elim
       (λ old. by_first j q old (same_chunk k j) refl)
-      (λ new. (p, subst (λ (e : Chunk × Place). lookup (same_chunk e.0) fs ≡ Some p) new (update k ∙ ap (λ b. cond b (Some p) (lookup (same_chunk k) es)) (chunk_self k)), subst (λ (e : Chunk × Place). IsNotAfter p e.1) new (not_after_itself p)))
+      (λ new. (p, subst (λ (e : Chunk × RowPlace). lookup (same_chunk e.0) fs ≡ Some p) new (update k ∙ ap (λ b. cond b (Some p) (lookup (same_chunk k) es)) (chunk_self k)), subst (λ (e : Chunk × RowPlace). IsNotAfter p e.1) new (not_after_itself p)))
       (Contains-push_cases before (k, p) (j, q) at);
 }
   where
-    by_sound : (j : Chunk) (q : Place) (b : Bool) → same_chunk k j ≡ b → cond b (Some p) (lookup (same_chunk j) es) ≡ Some q → Contains (before ++ (k, p) ∷ []) (j, q)
+    by_sound : (j : Chunk) (q : RowPlace) (b : Bool) → same_chunk k j ≡ b → cond b (Some p) (lookup (same_chunk j) es) ≡ Some q → Contains (before ++ (k, p) ∷ []) (j, q)
     by_sound j q true t is =
         let places : p ≡ q = cc in
-        subst (λ (e : Chunk × Place). Contains (before ++ (k, p) ∷ []) e) (λ i. (same_chunks k j t i, places i)) (Contains-push before (k, p))
+        subst (λ (e : Chunk × RowPlace). Contains (before ++ (k, p) ∷ []) e) (λ i. (same_chunks k j t i, places i)) (Contains-push before (k, p))
     by_sound j q false t is = Contains-append_left before ((k, p) ∷ []) (j, q) (was.sound j q is)
 
-    by_first : (j : Chunk) (q : Place) → Contains before (j, q) → (b : Bool) → same_chunk k j ≡ b → (r : Place) × (lookup (same_chunk j) fs ≡ Some r) × IsNotAfter r q
+    by_first : (j : Chunk) (q : RowPlace) → Contains before (j, q) → (b : Bool) → same_chunk k j ≡ b → (r : RowPlace) × (lookup (same_chunk j) fs ≡ Some r) × IsNotAfter r q
     by_first j q old true t =
         let found = was.first j q old in
-        let clash : ◌≡◌ {A = Option Place} None (Some found.0) = sym none ∙ ap (λ (c : Chunk). lookup (same_chunk c) es) (same_chunks k j t) ∙ found.1 in
+        let clash : ◌≡◌ {A = Option RowPlace} None (Some found.0) = sym none ∙ ap (λ (c : Chunk). lookup (same_chunk c) es) (same_chunks k j t) ∙ found.1 in
         absurd cc
     by_first j q old false t =
         let found = was.first j q old in
@@ -128,14 +128,14 @@ placed_more number i (q ∷ rows) r =
     ap (λ (es : Places). (chunk_of q, record { number = number; row = i }) ∷ es)
     (placed_more number (i + 1) rows r ∙ ap (λ (j : ℕ). placed_rows number (i + 1) rows ++ (chunk_of r, record { number = number; row = j }) ∷ []) (let e : i + 1 + length rows ≡ i + suc (length rows) = omega arith in e))
 
-pub placed_in : (number i : ℕ) (rows : List Row) (e : Chunk × Place) → Contains (placed_rows number i rows) e → (e.1.number ≡ number) × (e.1.row < i + length rows)
+pub placed_in : (number i : ℕ) (rows : List Row) (e : Chunk × RowPlace) → Contains (placed_rows number i rows) e → (e.1.number ≡ number) × (e.1.row < i + length rows)
 placed_in number i [] e there = absurd (none_in e there)
 placed_in number i (r ∷ rows) e there = ⊎_elim
-    (λ here. (ap (λ (f : Chunk × Place). f.1.number) (sym here), let row : e.1.row ≡ i = ap (λ (f : Chunk × Place). f.1.row) (sym here) in omega (arith, row)))
+    (λ here. (ap (λ (f : Chunk × RowPlace). f.1.number) (sym here), let row : e.1.row ≡ i = ap (λ (f : Chunk × RowPlace). f.1.row) (sym here) in omega (arith, row)))
     (λ later. let found = placed_in number (i + 1) rows e later in (found.0, omega (arith, found.1)))
     (cons_cases (chunk_of r, record { number = number; row = i }) e (placed_rows number (i + 1) rows) there)
 
-later_row : (p : Place) (number i j : ℕ) → i ≤ j → IsNotAfter p (record { number = number; row = i }) → IsNotAfter p (record { number = number; row = j })
+later_row : (p : RowPlace) (number i j : ℕ) → i ≤ j → IsNotAfter p (record { number = number; row = i }) → IsNotAfter p (record { number = number; row = j })
 later_row p number i j up = ⊎_elim (λ low. inl low) (λ same. inr (same.0, omega (arith, same.1, up)))
 
 pub before_more : (before : Places) (number i : ℕ) (rows : List Row) → length rows ≤ i → ArePlacesBefore before (record { number = number; row = 0 }) → ArePlacesBefore (before ++ placed_rows number 0 rows) (record { number = number; row = i })
@@ -159,16 +159,16 @@ rows_more before number rows i d below =
     ∙ ap (λ (l : List Row). placed_rows number 0 l) (sym (take_more rows i d below)))
 
 -- one more row is noted
-pub row_noted : (es : Entries) (before : Places) (number : ℕ) (rows : List Row) (i : ℕ) (d : Row) (chunk : Chunk) (place : Place) (fs : Entries) → i < length rows → chunk ≡ chunk_of (get_or rows i d) → place ≡ record { number = number; row = i }
+pub row_noted : (es : Entries) (before : Places) (number : ℕ) (rows : List Row) (i : ℕ) (d : Row) (chunk : Chunk) (place : RowPlace) (fs : Entries) → i < length rows → chunk ≡ chunk_of (get_or rows i d) → place ≡ record { number = number; row = i }
     → ((ps : Places) → AreFirst es ps → ArePlacesBefore ps place → AreFirst fs (ps ++ (chunk, place) ∷ []))
     → ArePlacesBefore before (record { number = number; row = 0 }) → AreFirst es (before ++ placed_rows number 0 (take i rows)) → AreFirst fs (before ++ placed_rows number 0 (take (i + 1) rows))
 row_noted es before number rows i d chunk place fs below is_chunk is_place step old was =
-    subst (λ (ps : Places). AreFirst fs ps) (ap (λ (c : Chunk). (before ++ placed_rows number 0 (take i rows)) ++ (c, place) ∷ []) is_chunk ∙ ap (λ (p : Place). (before ++ placed_rows number 0 (take i rows)) ++ (chunk_of (get_or rows i d), p) ∷ []) is_place ∙ rows_more before number rows i d below)
-    (step (before ++ placed_rows number 0 (take i rows)) was (subst (λ (p : Place). ArePlacesBefore (before ++ placed_rows number 0 (take i rows)) p) (sym is_place) (before_more before number i (take i rows) (omega (arith, length_taken rows i (omega arith))) old)))
+    subst (λ (ps : Places). AreFirst fs ps) (ap (λ (c : Chunk). (before ++ placed_rows number 0 (take i rows)) ++ (c, place) ∷ []) is_chunk ∙ ap (λ (p : RowPlace). (before ++ placed_rows number 0 (take i rows)) ++ (chunk_of (get_or rows i d), p) ∷ []) is_place ∙ rows_more before number rows i d below)
+    (step (before ++ placed_rows number 0 (take i rows)) was (subst (λ (p : RowPlace). ArePlacesBefore (before ++ placed_rows number 0 (take i rows)) p) (sym is_place) (before_more before number i (take i rows) (omega (arith, length_taken rows i (omega arith))) old)))
 
 -- recipes
 
-pub placed_of : (rs : List Recipe) (e : Chunk × Place) → Contains (placed rs) e → (r : Recipe) × Contains rs r × (e.1.number ≡ number_of r)
+pub placed_of : (rs : List Recipe) (e : Chunk × RowPlace) → Contains (placed rs) e → (r : Recipe) × Contains rs r × (e.1.number ≡ number_of r)
 placed_of [] e there = absurd (none_in e there)
 placed_of (r ∷ rs) e there = ⊎_elim
     (λ here. (r, first_in r rs, (placed_in (number_of r) 0 r.rows e here).0))
@@ -217,7 +217,7 @@ ids_recipe rs r = ascending_unique _ _ (IsAscending-set_of (map (λ q. q.id) (ro
 
 -- chunks that tables have
 
-left_twice : (a b : Bool) (o : Option Place) → left_of b (left_of a o) ≡ left_of (a || (b || false)) o
+left_twice : (a b : Bool) (o : Option RowPlace) → left_of b (left_of a o) ≡ left_of (a || (b || false)) o
 left_twice true true o = refl
 left_twice true false o = refl
 left_twice false true o = refl
@@ -235,64 +235,64 @@ struck_more es fs gs id rows i d below was update k =
 
 -- the least place
 
-abbrev pub IsLeastOf : Option Place → List Place → Type 0
+abbrev pub IsLeastOf : Option RowPlace → List RowPlace → Type 0
 IsLeastOf None places = places ≡ []
-IsLeastOf (Some p) places = Contains places p × ((q : Place) → Contains places q → IsNotAfter p q)
+IsLeastOf (Some p) places = Contains places p × ((q : RowPlace) → Contains places q → IsNotAfter p q)
 
-pub not_after_trans : (p q r : Place) → IsNotAfter p q → IsNotAfter q r → IsNotAfter p r
+pub not_after_trans : (p q r : RowPlace) → IsNotAfter p q → IsNotAfter q r → IsNotAfter p r
 not_after_trans p q r a b = ⊎_elim
     (λ low. ⊎_elim (λ next. inl (omega (arith, low, next))) (λ same. inl (omega (arith, low, same.0))) b)
     (λ here. ⊎_elim (λ next. inl (omega (arith, here.0, next))) (λ same. inr (here.0 ∙ same.0, omega (arith, here.1, same.1))) b)
     a
 
-pub least_more : (o : Option Place) (places : List Place) (p q : Place) → IsLeastOf o places → IsLesserOf o p q → IsLeastOf (Some q) (places ++ p ∷ [])
+pub least_more : (o : Option RowPlace) (places : List RowPlace) (p q : RowPlace) → IsLeastOf o places → IsLesserOf o p q → IsLeastOf (Some q) (places ++ p ∷ [])
 least_more None places p q none is = (
-  subst (λ (r : Place). Contains (places ++ p ∷ []) r) (sym is) (Contains-push places p),
+  subst (λ (r : RowPlace). Contains (places ++ p ∷ []) r) (sym is) (Contains-push places p),
   λ r there. ⊎_elim
-      (λ old. absurd (none_in r (subst (λ (l : List Place). Contains l r) none old)))
-      (λ new. subst (λ (s : Place). IsNotAfter q s) (is ∙ new) (not_after_itself q))
+      (λ old. absurd (none_in r (subst (λ (l : List RowPlace). Contains l r) none old)))
+      (λ new. subst (λ (s : RowPlace). IsNotAfter q s) (is ∙ new) (not_after_itself q))
       (Contains-push_cases places p r there),
 )
 least_more (Some a) places p q least is = (
   ⊎_elim
-      (λ first. Contains-append_left places (p ∷ []) q (subst (λ (r : Place). Contains places r) (sym first) least.0))
-      (λ second. subst (λ (r : Place). Contains (places ++ p ∷ []) r) (sym second) (Contains-push places p))
+      (λ first. Contains-append_left places (p ∷ []) q (subst (λ (r : RowPlace). Contains places r) (sym first) least.0))
+      (λ second. subst (λ (r : RowPlace). Contains (places ++ p ∷ []) r) (sym second) (Contains-push places p))
       is.0,
   λ r there. ⊎_elim
       (λ old. not_after_trans q a r is.1 (least.1 r old))
-      (λ new. subst (λ (s : Place). IsNotAfter q s) new is.2)
+      (λ new. subst (λ (s : RowPlace). IsNotAfter q s) new is.2)
       (Contains-push_cases places p r there),
 )
 
-value_in : (es : Entries) (k : Chunk) (p : Place) → lookup (same_chunk k) es ≡ Some p → Contains (values_of es) p
-value_in [] k p is = absurd (let clash : ◌≡◌ {A = Option Place} None (Some p) = is in cc)
+value_in : (es : Entries) (k : Chunk) (p : RowPlace) → lookup (same_chunk k) es ≡ Some p → Contains (values_of es) p
+value_in [] k p is = absurd (let clash : ◌≡◌ {A = Option RowPlace} None (Some p) = is in cc)
 value_in (e ∷ es) k p is = by_test (value_in es k p) (same_chunk k e.0) is
   where
     by_test : (lookup (same_chunk k) es ≡ Some p → Contains (values_of es) p) → (b : Bool) → cond b (Some e.1) (lookup (same_chunk k) es) ≡ Some p → Contains (values_of (e ∷ es)) p
-    by_test rest true h = let same : e.1 ≡ p = cc in subst (λ (q : Place). Contains (values_of (e ∷ es)) q) same (first_in e.1 (values_of es))
+    by_test rest true h = let same : e.1 ≡ p = cc in subst (λ (q : RowPlace). Contains (values_of (e ∷ es)) q) same (first_in e.1 (values_of es))
     by_test rest false h = later_in e.1 p (values_of es) (rest h)
 
 pub none_left : (es : Entries) → values_of es ≡ [] → (k : Chunk) → lookup (same_chunk k) es ≡ None
 none_left es none k = by_found (lookup (same_chunk k) es) refl
   where
-    by_found : (o : Option Place) → lookup (same_chunk k) es ≡ o → o ≡ None
+    by_found : (o : Option RowPlace) → lookup (same_chunk k) es ≡ o → o ≡ None
     by_found None is = refl
-    by_found (Some p) is = absurd (none_in p (subst (λ (l : List Place). Contains l p) none (value_in es k p is)))
+    by_found (Some p) is = absurd (none_in p (subst (λ (l : List RowPlace). Contains l p) none (value_in es k p is)))
 
-pub least_of_all : (es : Entries) (p : Place) → IsLeastOf (Some p) (values_of es) → (k : Chunk) (q : Place) → lookup (same_chunk k) es ≡ Some q → IsNotAfter p q
+pub least_of_all : (es : Entries) (p : RowPlace) → IsLeastOf (Some p) (values_of es) → (k : Chunk) (q : RowPlace) → lookup (same_chunk k) es ≡ Some q → IsNotAfter p q
 least_of_all es p least k q is = least.1 q (value_in es k q is)
 
 -- a value of a map with distinct keys is what some key finds
-pub value_found : (es : Entries) (p : Place) → IsDistinct same_chunk (keys_of es) → Contains (values_of es) p → (k : Chunk) × (lookup (same_chunk k) es ≡ Some p)
+pub value_found : (es : Entries) (p : RowPlace) → IsDistinct same_chunk (keys_of es) → Contains (values_of es) p → (k : Chunk) × (lookup (same_chunk k) es ≡ Some p)
 unfolding IsDistinct
 value_found [] p distinct there = absurd (none_in p there)
 value_found (e ∷ es) p distinct there = ⊎_elim
-    (λ here. (e.0, ap (λ b. cond b (Some e.1) (lookup (same_chunk e.0) es)) (chunk_self e.0) ∙ ap (λ (q : Place). Some q) here))
+    (λ here. (e.0, ap (λ b. cond b (Some e.1) (lookup (same_chunk e.0) es)) (chunk_self e.0) ∙ ap (λ (q : RowPlace). Some q) here))
     (λ later. behind (value_found es p distinct.1 later))
     (cons_cases e.1 p (values_of es) there)
   where
-    at_key : (es : Entries) (k : Chunk) (q : Place) → lookup (same_chunk k) es ≡ Some q → AllByRecursion (λ c. same_chunk e.0 c ≡ false) (keys_of es) → same_chunk e.0 k ≡ false
-    at_key [] k q is all = absurd (let clash : ◌≡◌ {A = Option Place} None (Some q) = is in cc)
+    at_key : (es : Entries) (k : Chunk) (q : RowPlace) → lookup (same_chunk k) es ≡ Some q → AllByRecursion (λ c. same_chunk e.0 c ≡ false) (keys_of es) → same_chunk e.0 k ≡ false
+    at_key [] k q is all = absurd (let clash : ◌≡◌ {A = Option RowPlace} None (Some q) = is in cc)
     at_key (f ∷ fs) k q is all = by_key (at_key fs k q) (same_chunk k f.0) refl is
       where
         by_key : (lookup (same_chunk k) fs ≡ Some q → AllByRecursion (λ c. same_chunk e.0 c ≡ false) (keys_of fs) → same_chunk e.0 k ≡ false) → (b : Bool) → same_chunk k f.0 ≡ b → cond b (Some f.1) (lookup (same_chunk k) fs) ≡ Some q → same_chunk e.0 k ≡ false
@@ -309,20 +309,20 @@ value_found (e ∷ es) p distinct there = ⊎_elim
     behind : (k : Chunk) × (lookup (same_chunk k) es ≡ Some p) → (k : Chunk) × (lookup (same_chunk k) (e ∷ es) ≡ Some p)
     behind found = (found.0, ap (λ b. cond b (Some e.1) (lookup (same_chunk found.0) es)) (flipped found.0 (at_key es found.0 p found.1 distinct.0)) ∙ found.1)
 
-pub end_some : (o : Option Place) (es : Entries) → IsLeastOf o (values_of es) → IsDistinct same_chunk (keys_of es) → IfSome o (λ p. (k : Chunk) × (lookup (same_chunk k) es ≡ Some p))
+pub end_some : (o : Option RowPlace) (es : Entries) → IsLeastOf o (values_of es) → IsDistinct same_chunk (keys_of es) → IfSome o (λ p. (k : Chunk) × (lookup (same_chunk k) es ≡ Some p))
 end_some None es least distinct = tt
 end_some (Some p) es least distinct = value_found es p distinct least.0
 
-pub end_least : (o : Option Place) (es : Entries) → IsLeastOf o (values_of es) → IfSome o (λ p. (k : Chunk) (q : Place) → lookup (same_chunk k) es ≡ Some q → IsNotAfter p q)
+pub end_least : (o : Option RowPlace) (es : Entries) → IsLeastOf o (values_of es) → IfSome o (λ p. (k : Chunk) (q : RowPlace) → lookup (same_chunk k) es ≡ Some q → IsNotAfter p q)
 end_least None es least = tt
 end_least (Some p) es least = least_of_all es p least
 
-pub whole_least : (o : Option Place) (done left all : List Place) → done ++ left ≡ all → left ≡ [] → IsLeastOf o done → IsLeastOf o all
-whole_least o done left all is none = subst (λ (l : List Place). IsLeastOf o l) (sym (append-nil done) ∙ ap (λ (l : List Place). done ++ l) (sym none) ∙ is)
+pub whole_least : (o : Option RowPlace) (done left all : List RowPlace) → done ++ left ≡ all → left ≡ [] → IsLeastOf o done → IsLeastOf o all
+whole_least o done left all is none = subst (λ (l : List RowPlace). IsLeastOf o l) (sym (append-nil done) ∙ ap (λ (l : List RowPlace). done ++ l) (sym none) ∙ is)
 
-pub is_absent : (b : Bool) (o : Option Place) → b ≡ is_some o → b ≡ false → o ≡ None
+pub is_absent : (b : Bool) (o : Option RowPlace) → b ≡ is_some o → b ≡ false → o ≡ None
 is_absent b None e f = refl
 is_absent b (Some p) e f = absurd (let clash : true ≡ false = sym e ∙ f in cc)
 
-pub is_present : (b : Bool) (o : Option Place) → b ≡ is_some o → b ≡ true → IsSome o
+pub is_present : (b : Bool) (o : Option RowPlace) → b ≡ is_some o → b ≡ true → IsSome o
 is_present b o e f = sym e ∙ f

@@ -19,7 +19,7 @@ use Rattle.vault_types.specs.contracts.NameOrd.TheImpl.{cmp-value}
 use Rattle.vault_types.specs.Shelf.{Blobs, kind_rank, name_cmp, recipe_name}
 use Rattle.vault_traits.specs.Shelf.{IsListing}
 use Rattle.vault_traits.proofs.Maps.{names_total, exact_names}
-use Rattle.keeper_open.specs.Damage.{IsDueFrom, IsListedFrom}
+use Rattle.vault_types.specs.FirstDamage.{IsDueFrom, IsListedFrom}
 use Rattle.keeper_open.specs.Reading.{IsLastListed, IsLastDue}
 
 -- the derived order of names is `name_cmp`

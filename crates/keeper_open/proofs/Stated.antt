@@ -29,8 +29,8 @@ use Rattle.sha1.specs.Sha1.{sha1}
 use Rattle.keeper_catalog.specs.declared.SetInfo.{SetInfo}
 use Rattle.keeper_catalog.specs.Catalog.{set_info}
 use Rattle.keeper_open.specs.declared.notes.Chunk.{Chunk}
-use Rattle.keeper_open.specs.declared.notes.Place.{Place}
-use Rattle.keeper_open.specs.Damage.{ReadsRecipe, ReadsTable}
+use Rattle.keeper_open.specs.declared.notes.RowPlace.{RowPlace}
+use Rattle.vault_types.specs.FirstDamage.{ReadsRecipe, ReadsTable}
 use Rattle.keeper_open.specs.Reading.{SetRead, AreRecipes, AreRead, IsSetRead, AreSets, AreTables, all_recipes, rows_of, chunk_of, same_chunk, placed_rows, number_of, placed, AreFirst, has_chunk, some_has, left_of, last_next, last_sparse}
 use Rattle.keeper_open.proofs.Noting.{cons_cases, first_in, later_in, none_in, same_chunks, chunk_self}
 use Rattle.keeper_open.proofs.Gathering.{some_at, at_below, in_place, place_of, recipe_read, set_at, all_in, mapped_in}
@@ -132,7 +132,7 @@ pub placed_row : (number i : ℕ) (rows : List Row) (j : ℕ) (row : Row) → sl
 placed_row number i [] j row is = absurd (let clash : ◌≡◌ {A = Option Row} None (Some row) = is in cc)
 placed_row number i (r ∷ rows) zero row is =
     let same : r ≡ row = cc in
-    subst (λ (e : Chunk × Place). Contains (placed_rows number i (r ∷ rows)) e) (λ k. (chunk_of (same k), record { number = number; row = (let e : i ≡ i + 0 = omega arith in e) k }))
+    subst (λ (e : Chunk × RowPlace). Contains (placed_rows number i (r ∷ rows)) e) (λ k. (chunk_of (same k), record { number = number; row = (let e : i ≡ i + 0 = omega arith in e) k }))
     (first_in (chunk_of r, record { number = number; row = i }) (placed_rows number (i + 1) rows))
 placed_row number i (r ∷ rows) (suc j) row is =
     later_in (chunk_of r, record { number = number; row = i }) (chunk_of row, record { number = number; row = i + suc j }) (placed_rows number (i + 1) rows)
@@ -147,14 +147,14 @@ placed_recipe_row (q ∷ rs) r j row there is = ⊎_elim
     (cons_cases q r rs there)
 
 -- what stands at a place
-pub row_placed : (number i : ℕ) (rows : List Row) (k : Chunk) (p : Place) → Contains (placed_rows number i rows) (k, p) → (j : ℕ) × (row : Row) × (slice_get rows j ≡ Some row) × (p.number ≡ number) × (p.row ≡ i + j) × (chunk_of row ≡ k)
+pub row_placed : (number i : ℕ) (rows : List Row) (k : Chunk) (p : RowPlace) → Contains (placed_rows number i rows) (k, p) → (j : ℕ) × (row : Row) × (slice_get rows j ≡ Some row) × (p.number ≡ number) × (p.row ≡ i + j) × (chunk_of row ≡ k)
 row_placed number i [] k p there = absurd (none_in (k, p) there)
 row_placed number i (r ∷ rows) k p there = ⊎_elim
-    (λ here. (0, r, refl, ap (λ (e : Chunk × Place). e.1.number) (sym here), ap (λ (e : Chunk × Place). e.1.row) (sym here) ∙ (let e : i ≡ i + 0 = omega arith in e), ap (λ (e : Chunk × Place). e.0) here))
+    (λ here. (0, r, refl, ap (λ (e : Chunk × RowPlace). e.1.number) (sym here), ap (λ (e : Chunk × RowPlace). e.1.row) (sym here) ∙ (let e : i ≡ i + 0 = omega arith in e), ap (λ (e : Chunk × RowPlace). e.0) here))
     (λ later. let found = row_placed number (i + 1) rows k p later in (suc found.0, found.1, found.2, found.3, found.4 ∙ (let e : i + 1 + found.0 ≡ i + suc found.0 = omega arith in e), found.5))
     (cons_cases (chunk_of r, record { number = number; row = i }) (k, p) (placed_rows number (i + 1) rows) there)
 
-pub recipe_placed : (rs : List Recipe) (k : Chunk) (p : Place) → Contains (placed rs) (k, p) → (r : Recipe) × (j : ℕ) × (row : Row) × Contains rs r × (slice_get r.rows j ≡ Some row) × (p.number ≡ number_of r) × (p.row ≡ j) × (chunk_of row ≡ k)
+pub recipe_placed : (rs : List Recipe) (k : Chunk) (p : RowPlace) → Contains (placed rs) (k, p) → (r : Recipe) × (j : ℕ) × (row : Row) × Contains rs r × (slice_get r.rows j ≡ Some row) × (p.number ≡ number_of r) × (p.row ≡ j) × (chunk_of row ≡ k)
 recipe_placed [] k p there = absurd (none_in (k, p) there)
 recipe_placed (q ∷ rs) k p there = ⊎_elim
     (λ own. let found = row_placed (number_of q) 0 q.rows k p own in (q, found.0, found.1, first_in q rs, found.2, found.3, found.4 ∙ (let e : 0 + found.0 ≡ found.0 = omega arith in e), found.5))

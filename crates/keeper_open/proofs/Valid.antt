@@ -26,8 +26,7 @@ use Rattle.sha1.specs.Sha1.{sha1}
 use Rattle.set_markers.specs.SetMarkers.{Marked, AreMarkersOfSets}
 use Rattle.keeper_catalog.specs.declared.SetInfo.{SetInfo}
 use Rattle.keeper_catalog.specs.Catalog.{set_info, table_at, Names, AreMarks}
-use Rattle.keeper_catalog.specs.View.{Opens}
-use Rattle.keeper_open.specs.Damage.{ReadsRecipe, ReadsTable}
+use Rattle.vault_types.specs.FirstDamage.{Opens, ReadsRecipe, ReadsTable}
 use Rattle.keeper_open.specs.Reading.{SetRead, AreRecipes, IsSetRead, AreSets, AreTables, all_recipes, rows_of, marks_in, chunk_of, some_has, last_next, last_sparse}
 use Rattle.keeper_open.proofs.Noting.{cons_cases, first_in, later_in, none_in}
 use Rattle.keeper_open.proofs.Gathering.{some_at, recipe_read, set_at, mapped_in, all_in}

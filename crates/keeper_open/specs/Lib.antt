@@ -1,3 +1,2 @@
-pub mod Damage
 pub mod Opening
 pub mod Reading

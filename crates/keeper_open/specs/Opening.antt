@@ -6,10 +6,11 @@ use Rattle.vault_types.specs.declared.Name.{Name}
 use Rattle.vault_types.specs.State.{State, IsValid}
 use Rattle.vault_types.specs.Shelf.{Blobs}
 use Rattle.fp_index.specs.Index.{IsIndexOf}
-use Rattle.keeper_parts.specs.Parts.{HeldIfTold}
+use Rattle.state_laws.specs.Parts.{HeldIfTold}
 use Rattle.keeper_catalog.specs.declared.Catalog.{Catalog}
 use Rattle.keeper_catalog.specs.Catalog.{memo_of, IsMemoOf, HasRoom}
-use Rattle.keeper_catalog.specs.View.{opened_core, Opens}
+use Rattle.vault_types.specs.FirstDamage.{Opens}
+use Rattle.keeper_catalog.specs.View.{opened_core}
 
 -- the catalog and the index are those of the state, as which the blobs open, where they are told; the strays are on the
 -- shelf, and the lists have the room that later calls need

@@ -17,17 +17,16 @@ use Rattle.vault_types.specs.Lists.{set_of, EachNext}
 use Rattle.vault_types.specs.Marks.{Mark, marks_of}
 use Rattle.vault_types.specs.Names.{same_fp}
 use Rattle.vault_types.specs.Shelf.{Blobs, recipe_name}
-use Rattle.container_store.specs.Damages.{IsTableWhy}
-use Rattle.recipe_store.specs.Damages.{IsFloorIn, IsRecipeWhy}
+use Rattle.vault_types.specs.BlobDamage.{IsTableWhy, IsFloorIn, IsRecipeWhy}
 use Rattle.set_markers.specs.SetMarkers.{AreMarkersOfSets}
 use Rattle.keeper_catalog.specs.declared.SetInfo.{SetInfo}
 use Rattle.keeper_catalog.specs.Catalog.{table_at}
 use Rattle.fp_index.specs.Index.{IsIndexOf}
 use Rattle.keeper_open.specs.declared.notes.Chunk.{Chunk}
-use Rattle.keeper_open.specs.declared.notes.Place.{Place}
+use Rattle.keeper_open.specs.declared.notes.RowPlace.{RowPlace}
 use Rattle.keeper_open.specs.declared.notes.Notes.{Notes}
 use Rattle.keeper_open.specs.declared.reading.Found.{Found}
-use Rattle.keeper_open.specs.Damage.{ReadsRecipe, ReadsTable, IsDueFrom, IsOpeningWhy}
+use Rattle.vault_types.specs.FirstDamage.{ReadsRecipe, ReadsTable, IsDueFrom, IsOpeningWhy}
 
 -- floors
 
@@ -121,32 +120,32 @@ abbrev pub same_chunk : Chunk → Chunk → Bool
 same_chunk a b = same_fp a.fp b.fp && (nat_eq a.id b.id && nat_eq a.len b.len)
 
 -- the rows with their places, from row i on
-abbrev pub placed_rows : ℕ → ℕ → List Row → List (Chunk × Place)
+abbrev pub placed_rows : ℕ → ℕ → List Row → List (Chunk × RowPlace)
 placed_rows number i [] = []
 placed_rows number i (r ∷ rows) = (chunk_of r, record { number = number; row = i }) ∷ placed_rows number (i + 1) rows
 
 abbrev pub number_of : Recipe → ℕ
 number_of r = r.set * 2 ^ 32 + r.version
 
-abbrev pub placed : List Recipe → List (Chunk × Place)
+abbrev pub placed : List Recipe → List (Chunk × RowPlace)
 placed rs = flat_map (λ r. placed_rows (number_of r) 0 r.rows) rs
 
-abbrev pub IsNotAfter : Place → Place → Type 0
+abbrev pub IsNotAfter : RowPlace → RowPlace → Type 0
 IsNotAfter p q = (p.number < q.number) ⊎ ((p.number ≡ q.number) × (p.row ≤ q.row))
 
 -- of a place, where there is one, and another the one that is not after the other
-abbrev pub IsLesserOf : Option Place → Place → Place → Type 0
+abbrev pub IsLesserOf : Option RowPlace → RowPlace → RowPlace → Type 0
 IsLesserOf None b p = p ≡ b
 IsLesserOf (Some a) b p = ((p ≡ a) ⊎ (p ≡ b)) × IsNotAfter p a × IsNotAfter p b
 
 -- the entries have for each chunk the first of these places
-pub record AreFirst (entries : List (Chunk × Place)) (places : List (Chunk × Place)) : Type 0 where
-  pub sound : (k : Chunk) (p : Place) → lookup (same_chunk k) entries ≡ Some p → Contains places (k, p)
-  pub first : (k : Chunk) (p : Place) → Contains places (k, p) → (q : Place) × (lookup (same_chunk k) entries ≡ Some q) × IsNotAfter q p
+pub record AreFirst (entries : List (Chunk × RowPlace)) (places : List (Chunk × RowPlace)) : Type 0 where
+  pub sound : (k : Chunk) (p : RowPlace) → lookup (same_chunk k) entries ≡ Some p → Contains places (k, p)
+  pub first : (k : Chunk) (p : RowPlace) → Contains places (k, p) → (q : RowPlace) × (lookup (same_chunk k) entries ≡ Some q) × IsNotAfter q p
 
 -- all places are before this one
-abbrev pub ArePlacesBefore : List (Chunk × Place) → Place → Type 0
-ArePlacesBefore places p = (e : Chunk × Place) → Contains places e → IsNotAfter e.1 p
+abbrev pub ArePlacesBefore : List (Chunk × RowPlace) → RowPlace → Type 0
+ArePlacesBefore places p = (e : Chunk × RowPlace) → Contains places e → IsNotAfter e.1 p
 
 abbrev pub AreBelow : List Recipe → ℕ → Type 0
 AreBelow rs number = (r : Recipe) → Contains rs r → number_of r < number
@@ -173,7 +172,7 @@ abbrev pub some_has : List Table → Chunk → Bool
 some_has ts k = list_any (λ t. has_chunk t.id t.rows k) ts
 
 -- the entries that are left
-abbrev pub left_of : Bool → Option Place → Option Place
+abbrev pub left_of : Bool → Option RowPlace → Option RowPlace
 left_of gone p = if gone then None else p
 
 -- the first table of these ids that is bad
@@ -182,7 +181,7 @@ IsFirstTable told ids kind.Table number w = Contains ids number × IsTableWhy to
 IsFirstTable told ids other number w = ⊥
 
 -- the tables of these ids, in memory; of the places those are left whose chunk is in none of them
-pub record IsFound (told : Option Blobs) (ids : List ℕ) (places : List (Chunk × Place)) (found : Found) (ts : List Table) : Type 0 where
+pub record IsFound (told : Option Blobs) (ids : List ℕ) (places : List (Chunk × RowPlace)) (found : Found) (ts : List Table) : Type 0 where
   pub read : AreTables told ts
   pub of : map (λ t. t.id) ts ≡ ids
   pub tables : (c : ℕ) → table_at found.tables.entries c ≡ find (λ t. t.id == c) ts

@@ -29,10 +29,9 @@ ghost use Rattle.vault_types.specs.declared.Kind.TheVariants as kind;
 ghost use Rattle.vault_types.specs.declared.Why.TheVariants as why;
 ghost use Rattle.vault_types.specs.State.{State};
 ghost use Rattle.vault_traits.specs.Shelf.{IsAsBefore};
-ghost use Rattle.blob_parts.specs.Causes.{HasCauses};
+ghost use Rattle.vault_traits.specs.Causes.{HasCauses};
 ghost use Rattle.vault_types.specs.Shelf.{Blobs};
-ghost use Rattle.keeper_catalog.specs.View.{Opens};
-ghost use Rattle.keeper_open.specs.Damage.{IsFirstDamage, IsDamageOf};
+ghost use Rattle.vault_types.specs.FirstDamage.{Opens, IsFirstDamage, IsDamageOf};
 ghost use Rattle.keeper_open.specs.Opening.{IsOpened};
 
 mod listing;
@@ -40,7 +39,7 @@ mod notes;
 mod reading;
 mod room;
 
-use crate::notes::{Notes, Place, least, list_of};
+use crate::notes::{Notes, RowPlace, least, list_of};
 use crate::reading::{Found, read_floors, read_sets, read_tables};
 use crate::room::catalog_of;
 use fp_index::Index;
@@ -100,7 +99,7 @@ pub fn open<S: Shelf>(alloc: Global, shelf: &mut S) -> Result<Opened, Fault>
 }
 
 // The fault of a row that stands in no table.
-fn bad_row(place: Place) -> Fault
+fn bad_row(place: RowPlace) -> Fault
     ensures { result ≡ fault.Damaged kind.Recipe place.number (why.BadRow place.row) }
 {
     Fault::Damaged {

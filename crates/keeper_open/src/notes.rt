@@ -4,7 +4,7 @@ ghost use Rattle.std.specs.Map.{lookup};
 ghost use Rattle.vault_types.specs.declared.Recipe.{Recipe as Recipes};
 ghost use Rattle.vault_types.specs.Lists.{set_of};
 ghost use Rattle.keeper_open.specs.declared.notes.Chunk.{Chunk as Chunks};
-ghost use Rattle.keeper_open.specs.declared.notes.Place.{Place as Places};
+ghost use Rattle.keeper_open.specs.declared.notes.RowPlace.{RowPlace as Places};
 ghost use Rattle.keeper_open.specs.Reading.{chunk_of, same_chunk, placed_rows, number_of, has_chunk, left_of, IsNotAfter, IsLesserOf, AreFirst, ArePlacesBefore, AreBelow, AreNoted};
 
 use keeper_catalog::distinct_ids;
@@ -23,7 +23,7 @@ pub struct Chunk {
 
 /// A row of a recipe: the recipe's number, and the row's from 0 on.
 #[derive(Clone, Copy, Debug, PartialEq, Eq)]
-pub struct Place {
+pub struct RowPlace {
     pub number: u64,
     pub row: u32,
 }
@@ -34,7 +34,7 @@ pub struct Place {
 pub struct Notes {
     pub markers: SetMarkers,
     pub ids: BTreeSet<Id>,
-    pub places: HashMap<Chunk, Place>,
+    pub places: HashMap<Chunk, RowPlace>,
 }
 
 impl Notes {
@@ -86,13 +86,13 @@ pub fn list_of(alloc: Global, ids: &BTreeSet<Id>) -> Result<Vec<Id>, Memory>
     Ok(list)
 }
 
-fn add_rows(places: &mut HashMap<Chunk, Place>, number: u64, rows: &[Row]) -> Result<(), Memory>
+fn add_rows(places: &mut HashMap<Chunk, RowPlace>, number: u64, rows: &[Row]) -> Result<(), Memory>
     requires { length rows.now < 2 ^ 32 }
     ensures { (before : List (Chunks × Places)) → AreFirst places.old.entries before → ArePlacesBefore before (record { number = number; row = 0 })
         → OnOk result (AreFirst places.new.entries (before ++ placed_rows number 0 rows.now)) }
 {
     for (at, row) in rows.iter().enumerate() {
-        let place = Place {
+        let place = RowPlace {
             number,
             row: at as u32,
         };
@@ -112,7 +112,11 @@ fn chunk_of(row: &Row) -> Chunk
 }
 
 // Keeps the place of a chunk that has none.
-fn add_row(places: &mut HashMap<Chunk, Place>, chunk: Chunk, place: Place) -> Result<(), Memory>
+fn add_row(
+    places: &mut HashMap<Chunk, RowPlace>,
+    chunk: Chunk,
+    place: RowPlace,
+) -> Result<(), Memory>
     ensures { (before : List (Chunks × Places)) → AreFirst places.old.entries before → ArePlacesBefore before place
         → OnOk result (AreFirst places.new.entries (before ++ (chunk, place) ∷ [])) }
 {
@@ -123,7 +127,7 @@ fn add_row(places: &mut HashMap<Chunk, Place>, chunk: Chunk, place: Place) -> Re
 }
 
 /// Takes the chunks out that a table of container `id` has.
-pub fn strike(places: &mut HashMap<Chunk, Place>, id: Id, rows: &[TableRow])
+pub fn strike(places: &mut HashMap<Chunk, RowPlace>, id: Id, rows: &[TableRow])
     ensures { (k : Chunks) → lookup (same_chunk k) places.new.entries ≡ left_of (has_chunk id rows.now k) (lookup (same_chunk k) places.old.entries) }
 {
     for row in rows {
@@ -137,7 +141,7 @@ pub fn strike(places: &mut HashMap<Chunk, Place>, id: Id, rows: &[TableRow])
 }
 
 /// The least place that is left.
-pub fn least(places: &HashMap<Chunk, Place>) -> Option<Place>
+pub fn least(places: &HashMap<Chunk, RowPlace>) -> Option<RowPlace>
     ensures none { IfNone result ((k : Chunks) → lookup (same_chunk k) places.now.entries ≡ None) }
     ensures some { IfSome result (λ p. (k : Chunks) × (lookup (same_chunk k) places.now.entries ≡ Some p)) }
     ensures least { IfSome result (λ p. (k : Chunks) (q : Places) → lookup (same_chunk k) places.now.entries ≡ Some q → IsNotAfter p q) }
@@ -149,7 +153,7 @@ pub fn least(places: &HashMap<Chunk, Place>) -> Option<Place>
     best
 }
 
-fn lesser_of(best: Option<Place>, place: Place) -> Place
+fn lesser_of(best: Option<RowPlace>, place: RowPlace) -> RowPlace
     ensures { IsLesserOf best place result }
 {
     match best {
@@ -158,7 +162,7 @@ fn lesser_of(best: Option<Place>, place: Place) -> Place
     }
 }
 
-fn lesser(a: Place, b: Place) -> Place
+fn lesser(a: RowPlace, b: RowPlace) -> RowPlace
     ensures { IsLesserOf (Some a) b result }
 {
     if a.number < b.number || (a.number == b.number && a.row <= b.row) {

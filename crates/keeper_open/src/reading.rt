@@ -6,13 +6,13 @@ ghost use Rattle.vault_types.specs.declared.Table.{Table as Tables};
 ghost use Rattle.vault_types.specs.Blobs.{IsVersion};
 ghost use Rattle.vault_types.specs.Lists.{IsAscending};
 ghost use Rattle.vault_traits.specs.Shelf.{IsAsBefore, IsListing};
-ghost use Rattle.blob_parts.specs.Causes.{HasCauses};
-ghost use Rattle.recipe_store.specs.Damages.{IsFloorIn, IsFloorDamage, IsRecipeDamage};
-ghost use Rattle.keeper_open.specs.Damage.{ReadsRecipe, IsDamageOf};
+ghost use Rattle.vault_traits.specs.Causes.{HasCauses};
+ghost use Rattle.vault_types.specs.BlobDamage.{IsFloorIn, IsFloorDamage, IsRecipeDamage};
+ghost use Rattle.vault_types.specs.FirstDamage.{ReadsRecipe, IsDamageOf};
 ghost use Rattle.keeper_open.specs.Reading.{SetRead, AreFloors, IsVersionDamage, IsSetRead, IsSetDamage, AreSets, all_recipes, AreNoted, NotesMore, IsFirstTable, IsFound};
 
 use crate::listing::{is_listed, last_due};
-use crate::notes::{Chunk, Notes, Place, note, strike};
+use crate::notes::{Chunk, Notes, RowPlace, note, strike};
 use container_store::get_table;
 use fp_index::Index;
 use keeper_catalog::SetInfo;
@@ -182,7 +182,7 @@ fn damaged(name: Name, why: Why) -> Fault
 pub struct Found {
     pub tables: BTreeMap<Id, Table>,
     pub index: Index,
-    pub places: HashMap<Chunk, Place>,
+    pub places: HashMap<Chunk, RowPlace>,
 }
 
 /// The tables of these containers.
@@ -190,7 +190,7 @@ pub fn read_tables<S: Shelf>(
     alloc: Global,
     shelf: &mut S,
     ids: &[Id],
-    places: HashMap<Chunk, Place>,
+    places: HashMap<Chunk, RowPlace>,
 ) -> Result<Found, Fault>
     requires { IsAscending ids.now }
     ensures read { IfOk result (λ found. (ts : List Tables) × IsFound (S.told shelf.old).blobs ids.now places.entries found ts) }

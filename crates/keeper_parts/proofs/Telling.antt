@@ -6,7 +6,7 @@ use Rattle.vault_types.specs.Shelf.{Blobs, blob_at}
 use Rattle.vault_traits.specs.Crash.{History}
 use Rattle.vault_traits.specs.Shelf.{blobs_with, history_with, MayBeWritten}
 use Rattle.vault_traits.proofs.Maps.{get_other, other_blob}
-use Rattle.blob_parts.specs.Writes.{MayBeWrittenInTurn}
+use Rattle.vault_traits.specs.Writes.{MayBeWrittenInTurn}
 
 pub tells_with : (told : Option Blobs) (name : Name) (bytes : Option (List ℕ)) → IsSome told → IsSome (blobs_with told name bytes)
 tells_with (Some m) name bytes tells = tells

@@ -12,8 +12,8 @@ ghost use Rattle.vault_types.specs.Events.{Core, Change, IsNear};
 ghost use Rattle.vault_traits.specs.Counts.{Rose};
 ghost use Rattle.vault_traits.specs.Crash.{LeavesNowIfTold, LeavesOnlyIfTold};
 ghost use Rattle.vault_traits.specs.Shelf.{blobs_with};
-ghost use Rattle.blob_parts.specs.Causes.{HasCauses, HasStoreFault, IsUndamaged};
-ghost use Rattle.keeper_parts.specs.Parts.{IsSpare, HeldIfTold, Mends, without_other, change, CanChange, Changes, with_strays, CanClean};
+ghost use Rattle.vault_traits.specs.Causes.{HasCauses, HasStoreFault, IsUndamaged};
+ghost use Rattle.state_laws.specs.Parts.{IsSpare, HeldIfTold, Mends, without_other, change, CanChange, Changes, with_strays, CanClean};
 
 use container_store::Sealed;
 use recipe_store::{put_floor, remove_recipe};

@@ -16,15 +16,15 @@ use Rattle.vault_traits.proofs.Maps.{other_blob}
 use Rattle.vault_traits.proofs.Moments.{then, more}
 use Rattle.fp_index.specs.Index.{IsIndexOf}
 use Rattle.restore_pins.specs.Pins.{Listed}
-use Rattle.keeper_parts.specs.Parts.{HeldIfTold, change}
-use Rattle.keeper_parts.proofs.Changing.{recipe_no_floor}
-use Rattle.keeper_parts.proofs.Standing.{needs_recipe}
+use Rattle.state_laws.specs.Parts.{HeldIfTold, change}
+use Rattle.state_laws.proofs.Changing.{recipe_no_floor}
+use Rattle.state_laws.proofs.Standing.{needs_recipe}
 use Rattle.keeper_parts.proofs.Telling.{tells_with}
 use Rattle.keeper_catalog.specs.declared.SetInfo.{SetInfo}
 use Rattle.keeper_catalog.specs.Catalog.{Memo, IsMemoOf}
 use Rattle.deletion_laws.specs.Deleting.{IsDeleting, AreStraysAfter}
 use Rattle.deletion_laws.specs.Removal.{AreIdle}
-use Rattle.deletion_laws.proofs.Members.{here, later, has_contained}
+use Rattle.state_laws.proofs.Members.{here, later, has_contained}
 use Rattle.deletion_laws.proofs.Keeping.{delete_same}
 use Rattle.deletion_laws.proofs.Going.{told_deleted, told_cleans, told_deleted_same, told_cleans_same}
 use Rattle.keeper_removals.specs.Removals.{Removing, Rises}

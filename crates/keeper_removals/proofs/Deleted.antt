@@ -26,7 +26,7 @@ use Rattle.restore_pins.proofs.Callers.{has-pinned}
 use Rattle.keeper_catalog.specs.declared.SetInfo.{SetInfo}
 use Rattle.keeper_catalog.specs.Catalog.{Memo, set_info, versions_in, IsMemoOf, AreMarks}
 use Rattle.deletion_laws.specs.Deleting.{pinned_ids, without_ids, AreStraysAfter}
-use Rattle.deletion_laws.proofs.Members.{has-filter, in_map, of_map, filter_within, container_in-append, container_in-some, container_in-is}
+use Rattle.state_laws.proofs.Members.{has-filter, in_map, of_map, filter_within, container_in-append, container_in-some, container_in-is}
 use Rattle.deletion_laws.proofs.Indexing.{delete_index, is_only_one, without_none}
 use Rattle.deletion_laws.proofs.Keeping.{delete_sets}
 use Rattle.deletion_laws.proofs.Marking.{freed_are, delete_marks}

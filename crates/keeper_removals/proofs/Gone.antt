@@ -13,7 +13,7 @@ use Rattle.fp_index.specs.Index.{without_id, IsOnlyOne, IsIndexOf}
 use Rattle.vault_types.specs.declared.Fp.{Fp}
 use Rattle.keeper_catalog.specs.Catalog.{table_at}
 use Rattle.deletion_laws.specs.Deleting.{without_ids}
-use Rattle.deletion_laws.proofs.Members.{here, later, no_member, first_or_rest, or_left, or_right, has_contained}
+use Rattle.state_laws.proofs.Members.{here, later, no_member, first_or_rest, or_left, or_right, has_contained}
 use Rattle.keeper_removals.specs.Removals.{IsNameOf, Leaves, IsTableIn, IsKnown}
 
 none_some : {A : Type 0} (x : A) → ◌≡◌ {A = Option A} None (Some x) → ⊥

@@ -6,7 +6,7 @@ use Rattle.std.proofs.lemmas.List.{append-nil}
 use Rattle.std.proofs.lemmas.List.Elements.{Contains-append_left, Contains-append_right, Contains-append_cases}
 use Rattle.vault_types.specs.declared.Name.{Name}
 use Rattle.vault_types.specs.Shelf.{recipe_name}
-use Rattle.deletion_laws.proofs.Members.{here, no_member, first_or_rest}
+use Rattle.state_laws.proofs.Members.{here, no_member, first_or_rest}
 use Rattle.keeper_removals.specs.Removals.{LeavesRecipes}
 
 pub recipes_none : (s v : ℕ) (strays : List Name) → LeavesRecipes s v v strays strays

@@ -14,12 +14,12 @@ use Rattle.vault_types.specs.Events.{Core, put_by, pinned_containers, pins_witho
 use Rattle.set_markers.specs.SetMarkers.{AreMarkersOfSets}
 use Rattle.restore_pins.specs.Pins.{Listed, ids_at, listed_ids, AreListsOf}
 use Rattle.restore_pins.proofs.Callers.{has-pinned}
-use Rattle.keeper_parts.specs.Parts.{HeldIfTold}
+use Rattle.state_laws.specs.Parts.{HeldIfTold}
 use Rattle.keeper_catalog.specs.Catalog.{Memo, table_at, listed, IsMemoOf}
 use Rattle.deletion_laws.specs.Deleting.{pinned_ids}
 use Rattle.deletion_laws.specs.Releasing.{released_ids, is_released, IsReleased, AreStraysReleased}
 use Rattle.deletion_laws.specs.Removal.{AreIdle}
-use Rattle.deletion_laws.proofs.Members.{or_left, or_right, has-map_append, container_in-some}
+use Rattle.state_laws.proofs.Members.{or_left, or_right, has-map_append, container_in-some}
 use Rattle.deletion_laws.proofs.Marking.{marked_are_named}
 use Rattle.deletion_laws.proofs.Pinning.{listed_released}
 use Rattle.deletion_laws.proofs.Releasing.{release_tables, released_pinned, told_released, release_idle}

@@ -8,7 +8,7 @@ ghost use Rattle.vault_types.specs.Events.{Core, IsNear, after_release, pins_wit
 ghost use Rattle.vault_traits.specs.Crash.{LeavesNowIfTold, LeavesOnlyIfTold};
 ghost use Rattle.set_markers.specs.SetMarkers.{AreMarkersOfSets};
 ghost use Rattle.restore_pins.specs.Pins.{numbers, listed_ids, without, AreListsOf};
-ghost use Rattle.keeper_parts.specs.Parts.{HeldIfTold};
+ghost use Rattle.state_laws.specs.Parts.{HeldIfTold};
 ghost use Rattle.keeper_catalog.specs.Catalog.{memo_of, IsMemoOf, HasRoom};
 ghost use Rattle.deletion_laws.specs.Releasing.{IsReleased};
 ghost use Rattle.keeper_removals.specs.Removals.{Leaves, Releasing};

@@ -7,10 +7,11 @@ use Rattle.vault_types.specs.State.{State, IsValid}
 use Rattle.vault_types.specs.Shelf.{Blobs, Stands}
 use Rattle.vault_traits.specs.Crash.{History}
 use Rattle.vault_traits.specs.Told.{ShelfTold}
-use Rattle.keeper_catalog.specs.View.{View, Keeps, Opens, opened_core}
-use Rattle.script_laws.specs.Leaves.{Begins}
-use Rattle.script_laws.specs.Strays.{IsStray, StraysOf}
-use Rattle.run_laws.specs.Early.{IsSameBut}
+use Rattle.vault_types.specs.FirstDamage.{Opens}
+use Rattle.keeper_catalog.specs.View.{View, Keeps, opened_core}
+use Rattle.store_model.specs.Leaves.{Begins}
+use Rattle.store_model.specs.Strays.{IsStray, StraysOf}
+use Rattle.store_model.specs.Early.{IsSameBut}
 use Rattle.serial_delete.specs.Keeping.{IsStateOf, IsKnownStray}
 use Rattle.serial_delete.proofs.Keeping.{opened_state, opened_known}
 

@@ -12,19 +12,19 @@ use Rattle.vault_types.specs.declared.Why.TheVariants as why
 use Rattle.vault_types.specs.declared.Recipe.{Recipe}
 use Rattle.vault_types.specs.State.{State, KeptVersion, is_kept, length_of, version_of, recipe_of}
 use Rattle.vault_types.specs.Blobs.{recipe_bytes, recipe_bytes_1, recipe_bytes_2, SpellsRecipe}
-use Rattle.vault_types.specs.Shelf.{Blobs, recipe_name, IsRecipeBlob}
+use Rattle.vault_types.specs.Shelf.{Blobs, recipe_name, IsRecipeBlob, Has}
 use Rattle.vault_types.specs.Texts.{recipe_text}
 use Rattle.vault_types.specs.Events.{Core, Held}
 use Rattle.vault_traits.specs.Counts.{Rose}
-use Rattle.blob_parts.specs.Causes.{Has, HasCauses, IsCause}
-use Rattle.recipe_store.specs.Damages.{IsNoRecipe, IsRecipeWhy, IsRecipeDamage}
-use Rattle.keeper_parts.specs.Parts.{HeldIfTold}
+use Rattle.vault_traits.specs.Causes.{HasCauses, IsCause}
+use Rattle.vault_types.specs.BlobDamage.{IsNoRecipe, IsRecipeWhy, IsRecipeDamage}
+use Rattle.state_laws.specs.Parts.{HeldIfTold}
 use Rattle.keeper_catalog.specs.View.{View, Keeps}
 use Rattle.commit_laws.specs.Laws.{SaysVersion}
 use Rattle.commit_laws.proofs.Loading.{held_recipe}
 use Rattle.keeper_core.proofs.Replacings.{version_there}
-use Rattle.script_laws.specs.Causes.{CausesRise, counts_of_shelf}
-use Rattle.run_laws.specs.Courses.{fits_show}
+use Rattle.store_model.specs.Causes.{CausesRise, counts_of_shelf}
+use Rattle.store_model.specs.Courses.{fits_show}
 use Rattle.command_runner.specs.Showing.{IsUnread, IsReadersFault, ReadsRecipe}
 use Rattle.serial_delete.specs.Keeping.{IsStateOf}
 use Rattle.keeper_store.proofs.Opening.{same_but}

@@ -8,10 +8,10 @@ use Rattle.vault_types.specs.declared.Pending.TheVariants as pending
 use Rattle.vault_types.specs.State.{State, IsValid}
 use Rattle.vault_types.specs.Shelf.{Blobs}
 use Rattle.vault_types.specs.Events.{Core, Change, Pin, pinned_containers, IsChange, IsNear, IsNeeded}
-use Rattle.keeper_parts.specs.Parts.{HeldIfTold}
+use Rattle.state_laws.specs.Parts.{HeldIfTold}
 use Rattle.keeper_catalog.specs.View.{View, Keeps}
-use Rattle.script_laws.specs.Strays.{IsStray, StraysOf}
-use Rattle.script_laws.specs.View.{IsKept}
+use Rattle.store_model.specs.Strays.{IsStray, StraysOf}
+use Rattle.store_model.specs.View.{IsKept}
 use Rattle.serial_delete.specs.Keeping.{IsStateOf, IsKnownStray}
 
 near_told : (told : Option Blobs) (K : Core) → IsSome told → HeldIfTold told K → IsSomeAnd told (IsNear K.state K.other)

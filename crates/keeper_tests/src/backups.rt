@@ -1,6 +1,6 @@
 // Backups of a source into set 3, in chunks of 4 bytes and containers of 8.
 ghost use Rattle.std.specs.Prelude.{None, ◌≡◌};
-ghost use Rattle.backup_pass.specs.Passing.{IsInRange};
+ghost use Rattle.vault_types.specs.JobRanges.{IsInRange};
 
 use keeper_core::Keeper;
 use serial_backup::backup_plain;

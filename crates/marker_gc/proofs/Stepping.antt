@@ -7,13 +7,13 @@ use Rattle.std.proofs.lemmas.Map.Entries.{option_filter}
 use Rattle.vault_types.specs.Lists.{has}
 use Rattle.vault_types.specs.Marks.{marks_of, marked_ids, marks_above, freed_ids}
 use Rattle.marker_gc.specs.Markers.{marker_of}
-use Rattle.marker_gc.specs.Steps.{Step, marks_after, stands_above, stands_since, AreBelow, VersionsRise}
-use Rattle.marker_gc.specs.Steps.Step.{Committed, Taken}
+use Rattle.marker_gc.specs.Steps.{MarkerStep, marks_after, stands_above, stands_since, AreBelow, VersionsRise}
+use Rattle.marker_gc.specs.Steps.MarkerStep.{Committed, Taken}
 use Rattle.marker_gc.proofs.Lists.{has-filter}
 use Rattle.marker_gc.proofs.Marking.{raised, stays, marker_of-more, marker_of-above, all-append, all-marks_of, all-filter, has-marked_ids, named-marker}
 
 -- a list for a version at or above a floor was committed for one that rises above it
-above-below : (version floor c : ℕ) (steps : List Step) → AreBelow version steps → stands_above floor steps c ≡ true → floor ≤ version
+above-below : (version floor c : ℕ) (steps : List MarkerStep) → AreBelow version steps → stands_above floor steps c ≡ true → floor ≤ version
 above-below version floor c [] h e = let clash : false ≡ true = e in absurd (cc)
 above-below version floor c (Committed v ids ∷ steps) h e = step (nat_le floor v) refl (has c ids) e (λ f. above-below version floor c steps h.1 f)
   where
@@ -24,20 +24,20 @@ above-below version floor c (Committed v ids ∷ steps) h e = step (nat_le floor
 above-below version floor c (Taken f ∷ steps) h e = above-below version floor c steps h e
 
 -- the marker of a container after the steps, and where its id stands
-pub record Stands (s c : ℕ) (steps : List Step) : Type 0 where
+pub record Stands (s c : ℕ) (steps : List MarkerStep) : Type 0 where
   pub since : is_some (marker_of (marks_after s steps) s c) ≡ stands_since steps c
   pub above : (floor : ℕ) → is_some (option_filter (stays floor) (marker_of (marks_after s steps) s c)) ≡ (stands_since steps c && stands_above floor steps c)
 
 self : (s : ℕ) → (s == s) ≡ true
 self s = grind (arith, nat_tests)
 
-after-committed : (s v c : ℕ) (ids : List ℕ) (steps : List Step)
+after-committed : (s v c : ℕ) (ids : List ℕ) (steps : List MarkerStep)
     → marker_of (marks_after s (Committed v ids ∷ steps)) s c ≡ cond (has c ids) (raised v (marker_of (marks_after s steps) s c)) (marker_of (marks_after s steps) s c)
 after-committed s v c ids steps =
     marker_of-more (marks_after s steps) s v ids s c
     ∙ ap (λ b. cond (b && has c ids) (raised v (marker_of (marks_after s steps) s c)) (marker_of (marks_after s steps) s c)) (self s)
 
-after-taken : (s f c : ℕ) (steps : List Step) → marker_of (marks_after s (Taken f ∷ steps)) s c ≡ option_filter (stays f) (marker_of (marks_after s steps) s c)
+after-taken : (s f c : ℕ) (steps : List MarkerStep) → marker_of (marks_after s (Taken f ∷ steps)) s c ≡ option_filter (stays f) (marker_of (marks_after s steps) s c)
 after-taken s f c steps =
     marker_of-above s f (marks_after s steps) s c
     ∙ ap (λ b. cond b (option_filter (stays f) (marker_of (marks_after s steps) s c)) (marker_of (marks_after s steps) s c)) (self s)
@@ -82,7 +82,7 @@ taken-above f floor (Some w) true here above e g h = step (stays f w) ∙ ap (λ
     step true = h
     step false = refl
 
-pub stands : (s c : ℕ) (steps : List Step) → VersionsRise steps → Stands s c steps
+pub stands : (s c : ℕ) (steps : List MarkerStep) → VersionsRise steps → Stands s c steps
 stands s c [] h = record { since = refl; above = λ floor. refl }
 stands s c (Committed v ids ∷ steps) h =
     let rest : Stands s c steps = stands s c steps h.1 in record {
@@ -108,15 +108,15 @@ stands s c (Taken f ∷ steps) h =
     twice true false = refl
     twice false b = refl
 
-of_one_set : (s : ℕ) (steps : List Step) → AllByRecursion (λ m. m.set ≡ s) (marks_after s steps)
+of_one_set : (s : ℕ) (steps : List MarkerStep) → AllByRecursion (λ m. m.set ≡ s) (marks_after s steps)
 of_one_set s [] = tt
 of_one_set s (Committed v ids ∷ steps) = all-append (λ m. m.set ≡ s) (marks_after s steps) (marks_of s v ids) (of_one_set s steps) (all-marks_of s v ids)
 of_one_set s (Taken f ∷ steps) = all-filter (λ m. m.set ≡ s) (λ m. not ((m.set == s) && nat_lt m.version f)) (marks_after s steps) (of_one_set s steps)
 
-pub named-since : (s c : ℕ) (steps : List Step) → VersionsRise steps → has c (marked_ids (marks_after s steps)) ≡ stands_since steps c
+pub named-since : (s c : ℕ) (steps : List MarkerStep) → VersionsRise steps → has c (marked_ids (marks_after s steps)) ≡ stands_since steps c
 named-since s c steps h = has-marked_ids c (marks_after s steps) ∙ named-marker s c (marks_after s steps) (of_one_set s steps) ∙ (stands s c steps h).since
 
-pub taken-since : (s floor c : ℕ) (steps : List Step) → VersionsRise steps → has c (freed_ids s floor (marks_after s steps)) ≡ (stands_since steps c && not (stands_above floor steps c))
+pub taken-since : (s floor c : ℕ) (steps : List MarkerStep) → VersionsRise steps → has c (freed_ids s floor (marks_after s steps)) ≡ (stands_since steps c && not (stands_above floor steps c))
 taken-since s floor c steps h =
     has-filter c (λ k. not (has k (marked_ids (marks_above s floor (marks_after s steps))))) (marked_ids (marks_after s steps))
     ∙ ap (λ b. b && not (has c (marked_ids (marks_above s floor (marks_after s steps))))) (named-since s c steps h)

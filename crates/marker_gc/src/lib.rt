@@ -10,7 +10,7 @@ ghost use Rattle.std.specs.Prelude.{◌≡◌, ◌≤◌, ◌+◌, ◌++◌, ◌
 ghost use Rattle.vault_types.specs.Lists.{has};
 ghost use Rattle.vault_types.specs.Marks.{Mark, marks_of, marked_ids, marks_above, freed_ids};
 ghost use Rattle.marker_gc.specs.Markers.{AreMarkers};
-ghost use Rattle.marker_gc.specs.Steps.{Step, marks_after, stands_above, stands_since, VersionsRise};
+ghost use Rattle.marker_gc.specs.Steps.{MarkerStep, marks_after, stands_above, stands_since, VersionsRise};
 
 mod map;
 pub mod order;
@@ -102,6 +102,6 @@ impl Markers {
 /// However the markers came about, with versions that rise: what is named stands in some list that was committed since it
 /// was last taken, and what a floor takes of it stands in no list for a version at or above the floor.
 pub fn taken_ids_are_in_no_newer_list()
-    ensures named { (s c : ℕ) (steps : List Step) → VersionsRise steps → has c (marked_ids (marks_after s steps)) ≡ stands_since steps c }
-    ensures taken { (s floor c : ℕ) (steps : List Step) → VersionsRise steps → has c (freed_ids s floor (marks_after s steps)) ≡ (stands_since steps c && not (stands_above floor steps c)) }
+    ensures named { (s c : ℕ) (steps : List MarkerStep) → VersionsRise steps → has c (marked_ids (marks_after s steps)) ≡ stands_since steps c }
+    ensures taken { (s floor c : ℕ) (steps : List MarkerStep) → VersionsRise steps → has c (freed_ids s floor (marks_after s steps)) ≡ (stands_since steps c && not (stands_above floor steps c)) }
 {}

@@ -1,5 +1,5 @@
 // A pass over a stream, and backups by its parts alone.
-ghost use Rattle.backup_pass.specs.Passing.{IsCuttable};
+ghost use Rattle.vault_types.specs.JobRanges.{IsCuttable};
 
 use backup_pass::Pass;
 use container_fill::{Filled, Filler, Unsealed};

@@ -8,7 +8,7 @@ use Rattle.vault_types.specs.declared.Recipe.{Recipe}
 use Rattle.vault_types.specs.Events.{Core, Change, Job, Pin, CanCommit, with_pins, after_commit, after_refused, after_release}
 use Rattle.vault_types.specs.State.{KeptVersion}
 use Rattle.keeper_catalog.specs.View.{View, Keeps}
-use Rattle.deletion_laws.proofs.Members.{filter_contains}
+use Rattle.state_laws.proofs.Members.{filter_contains}
 use Rattle.pin_laws.specs.Following.{GoesOnTelling, Follows}
 
 -- nothing, and one after the other

@@ -12,9 +12,9 @@ use Rattle.vault_traits.specs.Crash.{History, LeavesNowIfTold, LeavesOnlyIfTold,
 use Rattle.vault_traits.specs.Shelf.{MayBeWritten, blobs_with}
 use Rattle.vault_traits.proofs.Maps.{get_other, get_is, written_or_other}
 use Rattle.vault_traits.proofs.Moments.{may_write, told_or_silent, silent, silent_write}
-use Rattle.keeper_parts.specs.Parts.{HeldIfTold}
-use Rattle.keeper_parts.proofs.Standing.{keeps_container, needs_recipe}
-use Rattle.keeper_parts.proofs.Changing.{recipe_no_floor, recipe_no_table, recipe_no_payload, recipe_same, version_high, latest_low, near_alone}
+use Rattle.state_laws.specs.Parts.{HeldIfTold}
+use Rattle.state_laws.proofs.Standing.{keeps_container, needs_recipe}
+use Rattle.state_laws.proofs.Changing.{recipe_no_floor, recipe_no_table, recipe_no_payload, recipe_same, version_high, latest_low, near_alone}
 use Rattle.recipe_replacement.specs.Replacing.{IsRecipeOf, IsRecipeOfIfTold}
 
 module _ (S : State) (r : Recipe) (of : IsRecipeOf S r) where

@@ -10,8 +10,8 @@ ghost use Rattle.vault_types.specs.Shelf.{recipe_name, Stands};
 ghost use Rattle.vault_types.specs.Events.{Core, IsNear};
 ghost use Rattle.vault_traits.specs.Crash.{LeavesNowIfTold, LeavesOnlyIfTold};
 ghost use Rattle.vault_traits.specs.Shelf.{blobs_with, IsAsBefore};
-ghost use Rattle.blob_parts.specs.Causes.{HasCauses, IsUndamaged};
-ghost use Rattle.keeper_parts.specs.Parts.{HeldIfTold};
+ghost use Rattle.vault_traits.specs.Causes.{HasCauses, IsUndamaged};
+ghost use Rattle.state_laws.specs.Parts.{HeldIfTold};
 ghost use Rattle.recipe_replacement.specs.Replacing.{IsRecipeOfIfTold, waits_after};
 
 use recipe_store::put_recipe;

@@ -8,11 +8,11 @@ ghost use Rattle.std.specs.Prelude.{◌≡◌, ◌++◌, [], ◌↔◌, IsTrue, 
 ghost use Rattle.vault_types.specs.declared.Fault.TheVariants as fault;
 ghost use Rattle.vault_types.specs.declared.Recipe.{Recipe as Recipes};
 ghost use Rattle.vault_types.specs.Blobs.{recipe_bytes, floor_bytes, IsRecipe, IsVersion, SpellsRecipe, SpellsFloor};
-ghost use Rattle.vault_types.specs.Shelf.{recipe_name, floor_name};
+ghost use Rattle.vault_types.specs.Shelf.{recipe_name, floor_name, Has};
 ghost use Rattle.vault_traits.specs.Counts.{HasFailed};
 ghost use Rattle.vault_traits.specs.Shelf.{IsAsBefore, IsWritten, MayBeWritten, IsListing};
-ghost use Rattle.blob_parts.specs.Causes.{Has, HasCauses, HasStoreFault, IsUndamaged};
-ghost use Rattle.recipe_store.specs.Damages.{IsNoRecipe, IsNoFloor, IsRecipeDamage, IsFloorDamage, IsFloorIn};
+ghost use Rattle.vault_traits.specs.Causes.{HasCauses, HasStoreFault, IsUndamaged};
+ghost use Rattle.vault_types.specs.BlobDamage.{IsNoRecipe, IsNoFloor, IsRecipeDamage, IsFloorDamage, IsFloorIn};
 
 use crate::plain::{encode_plain, read_plain};
 use blob_parts::{Unread, fault_of, sum_of};

@@ -11,7 +11,7 @@ use Rattle.vault_types.specs.declared.Answer.{Answer}
 use Rattle.vault_types.specs.Texts.{answer_text, fault_line}
 use Rattle.vault_traits.specs.Counts.{Rose}
 use Rattle.vault_traits.specs.Told.{SinkTold, Takes}
-use Rattle.run_laws.specs.World.{IsPrinted, IsTold, TakesFront, report_text}
+use Rattle.store_model.specs.World.{IsPrinted, IsTold, TakesFront, report_text}
 
 pub takes_nothing : (told : Option (List ℕ)) → Takes told told []
 takes_nothing None = refl

@@ -3,7 +3,7 @@ ghost use Rattle.std.specs.Prelude.{◌≤◌, OnOk, OnErr};
 ghost use Rattle.vault_types.specs.Texts.{answer_text};
 ghost use Rattle.vault_traits.specs.Counts.{Rose};
 ghost use Rattle.vault_traits.specs.Told.{Takes};
-ghost use Rattle.run_laws.specs.World.{IsPrinted, IsTold, TakesFront, report_text};
+ghost use Rattle.store_model.specs.World.{IsPrinted, IsTold, TakesFront, report_text};
 
 use script_words::{answer_text, fault_text};
 use vault_traits::{Failed, Sink};

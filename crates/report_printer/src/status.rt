@@ -1,6 +1,6 @@
 // The exit status.
 ghost use Rattle.std.specs.Prelude.{◌≡◌};
-ghost use Rattle.run_laws.specs.World as spec;
+ghost use Rattle.store_model.specs.World as spec;
 
 use vault_types::{Answer, Fault};
 

@@ -18,7 +18,7 @@ use Rattle.vault_types.specs.Names.{same_fp}
 use Rattle.vault_types.specs.Bytes.{offset_of}
 use Rattle.vault_types.proofs.FillLemmas.{same_fps, bytes_eq-same}
 use Rattle.keeper_catalog.specs.Catalog.{table_at}
-use Rattle.row_spots.specs.declared.offsets.Place.{Place}
+use Rattle.row_spots.specs.declared.offsets.ChunkSpan.{ChunkSpan}
 use Rattle.row_spots.specs.Spots.{spot_in, HasPlace, AreRuled, IsFirstWithout}
 use Rattle.row_spots.specs.Offsets.{place_from, place_at, fitting_spot, ArePlaces}
 
@@ -26,11 +26,11 @@ contains_later : (r : TableRow) (rows : List TableRow) (x : TableRow) → Contai
 contains_later r rows x h = (suc h.0, omega (arith, h.1), h.2)
 
 -- a place is that of the first row with the fingerprint
-pub record IsThere (at : ℕ) (rows : List TableRow) (f : Fp) (p : Place) : Type 0 where
+pub record IsThere (at : ℕ) (rows : List TableRow) (f : Fp) (p : ChunkSpan) : Type 0 where
   pub offset : p.at ≡ at + offset_of rows f
   pub row : Contains rows (record { fp = f; len = p.len })
 
-pub place_there : (at : ℕ) (rows : List TableRow) (f : Fp) (p : Place) → place_from at rows f ≡ Some p → IsThere at rows f p
+pub place_there : (at : ℕ) (rows : List TableRow) (f : Fp) (p : ChunkSpan) → place_from at rows f ≡ Some p → IsThere at rows f p
 place_there at [] f p e = absurd cc
 place_there at (r ∷ rows) f p e = step (same_fp r.fp f) refl e (λ i. place_there (at + r.len) rows f p i)
   where
@@ -81,7 +81,7 @@ record AnswersAt (o : Option Table) (r : Row) (answer : Option Spot) : Type 0 wh
   absent : IfNone answer (IsSomeAnd o (λ t. Contains t.rows (record { fp = r.fp; len = r.len })) → ⊥)
 
 module _ (r : Row) (t : Table) (apart : IsDistinct same_fp (map (λ q. q.fp) t.rows)) where
-  at_place : (o : Option Place) → place_from 0 t.rows r.fp ≡ o → AnswersAt (Some t) r (fitting_spot r o)
+  at_place : (o : Option ChunkSpan) → place_from 0 t.rows r.fp ≡ o → AnswersAt (Some t) r (fitting_spot r o)
   at_place None e = record {
     spot = tt;
     placed = tt;
@@ -118,11 +118,11 @@ answers tables r rules = record { spot = at.spot; placed = at.placed; absent = a
     at = step (table_at tables r.id) refl
 
 -- what is known of the row's table gives its place
-pub known_place : (tables : List (ℕ × Table)) (known : List (ℕ × List (Fp × Place))) (r : Row) → IsSomeAnd (lookup (nat_eq r.id) known) (ArePlaces tables r.id)
+pub known_place : (tables : List (ℕ × Table)) (known : List (ℕ × List (Fp × ChunkSpan))) (r : Row) → IsSomeAnd (lookup (nat_eq r.id) known) (ArePlaces tables r.id)
     → option_and_then (lookup (same_fp r.fp)) (lookup (nat_eq r.id) known) ≡ place_at tables r.id r.fp
 known_place tables known r h = step (lookup (nat_eq r.id) known) h
   where
-    step : (o : Option (List (Fp × Place))) → IsSomeAnd o (ArePlaces tables r.id) → option_and_then (lookup (same_fp r.fp)) o ≡ place_at tables r.id r.fp
+    step : (o : Option (List (Fp × ChunkSpan))) → IsSomeAnd o (ArePlaces tables r.id) → option_and_then (lookup (same_fp r.fp)) o ≡ place_at tables r.id r.fp
     step None i = absurd i
     step (Some places) i = i r.fp
 

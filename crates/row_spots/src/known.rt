@@ -5,19 +5,19 @@ ghost use Rattle.vault_types.specs.Names.{same_fp};
 ghost use Rattle.row_spots.specs.Spots.{spot_in, HasPlace, AreRuled};
 ghost use Rattle.row_spots.specs.Offsets.{fitting_spot, ArePlaces, AreKnown};
 
-use crate::offsets::{Place, Places};
+use crate::offsets::{ChunkSpan, ChunkSpans};
 use std::alloc::Global;
 use std::collections::{BTreeMap, HashMap};
 use vault_types::{Id, Memory, Row, Spot, Table};
 
 // The chunks of the table at an id: none where there is no table.
-fn places_at(alloc: Global, tables: &BTreeMap<Id, Table>, id: Id) -> Result<Places, Memory>
+fn places_at(alloc: Global, tables: &BTreeMap<Id, Table>, id: Id) -> Result<ChunkSpans, Memory>
     requires { AreRuled tables.now.entries }
     ensures { IfOk result (ArePlaces tables.now.entries id) }
 {
     match tables.get(&id) {
-        Some(table) => Places::of_rows(alloc, table.rows.as_slice()),
-        None => Ok(Places::new(alloc)),
+        Some(table) => ChunkSpans::of_rows(alloc, table.rows.as_slice()),
+        None => Ok(ChunkSpans::new(alloc)),
     }
 }
 
@@ -25,7 +25,7 @@ fn places_at(alloc: Global, tables: &BTreeMap<Id, Table>, id: Id) -> Result<Plac
 fn make_known(
     alloc: Global,
     tables: &BTreeMap<Id, Table>,
-    known: &mut HashMap<Id, Places>,
+    known: &mut HashMap<Id, ChunkSpans>,
     id: Id,
 ) -> Result<(), Memory>
     requires rules { AreRuled tables.now.entries }
@@ -40,14 +40,14 @@ fn make_known(
 }
 
 // The chunk that a row names, where its table is known and has it.
-fn place_of(known: &HashMap<Id, Places>, row: &Row) -> Option<Place>
+fn place_of(known: &HashMap<Id, ChunkSpans>, row: &Row) -> Option<ChunkSpan>
     ensures { result ≡ option_and_then (lookup (same_fp row.now.fp)) (lookup (nat_eq row.now.id) known.now.entries) }
 {
     known.get(&row.id)?.get(&row.fp)
 }
 
 // The spot of a row, where its chunk is there with its length.
-fn fitting(place: Option<Place>, row: &Row) -> Option<Spot>
+fn fitting(place: Option<ChunkSpan>, row: &Row) -> Option<Spot>
     ensures { result ≡ fitting_spot row.now place }
 {
     let place = place?;
@@ -66,7 +66,7 @@ fn fitting(place: Option<Place>, row: &Row) -> Option<Spot>
 pub fn spot_of(
     alloc: Global,
     tables: &BTreeMap<Id, Table>,
-    known: &mut HashMap<Id, Places>,
+    known: &mut HashMap<Id, ChunkSpans>,
     row: &Row,
 ) -> Result<Option<Spot>, Memory>
     requires rules { AreRuled tables.now.entries }

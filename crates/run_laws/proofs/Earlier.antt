@@ -7,12 +7,12 @@ use Rattle.vault_types.specs.declared.Line.{Line}
 use Rattle.vault_types.specs.State.{State}
 use Rattle.vault_types.specs.Script.{Sources}
 use Rattle.vault_traits.specs.Told.{ShelfTold, PlacesTold}
-use Rattle.script_laws.specs.Causes.{Counts, CausesRise, HasCauses, counts_over}
-use Rattle.script_laws.specs.Complete.{IsComplete}
-use Rattle.script_laws.specs.Script.{RunsLines, MeansScript}
+use Rattle.store_model.specs.Causes.{Counts, CausesRise, HasCauses, counts_over}
+use Rattle.store_model.specs.Complete.{IsComplete}
+use Rattle.store_model.specs.Script.{RunsLines, MeansScript}
 use Rattle.script_laws.proofs.Following.{stay_more}
 use Rattle.script_laws.proofs.Rising.{rise_lower}
-use Rattle.run_laws.specs.Early.{IsSameBut}
+use Rattle.store_model.specs.Early.{IsSameBut}
 
 -- counts with an earlier one of the shelf
 abbrev pub with_store : Counts → ℕ → Counts

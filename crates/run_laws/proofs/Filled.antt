@@ -5,10 +5,10 @@ use Rattle.vault_types.specs.declared.Limits.{Limits}
 use Rattle.vault_types.specs.declared.Fault.{Fault}
 use Rattle.vault_types.specs.declared.Answer.{Answer}
 use Rattle.vault_traits.specs.Counts.{counted, RiseFrom}
-use Rattle.script_laws.specs.Causes.{RiseInSomeOrder, place_number, read_number}
+use Rattle.store_model.specs.Causes.{RiseInSomeOrder, place_number, read_number}
 use Rattle.std.proofs.lemmas.List.Sorted.{length_permutation}
-use Rattle.run_laws.specs.World.{World}
-use Rattle.run_laws.specs.Filling.{RunsFill}
+use Rattle.store_model.specs.World.{World}
+use Rattle.store_model.specs.Filling.{RunsFill}
 
 later : (before : ℕ) (ns : List ℕ) (now : ℕ) → RiseFrom before ns now → before ≤ now
 later before [] now rise = rise

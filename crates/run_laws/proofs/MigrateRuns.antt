@@ -11,15 +11,15 @@ use Rattle.vault_traits.specs.Counts.{counted_up}
 use Rattle.vault_traits.specs.Crash.{History, LeavesNowIfTold, LeavesOnlyIfTold}
 use Rattle.vault_traits.specs.Told.{ShelfTold}
 use Rattle.vault_traits.proofs.Moments.{more, more_now}
-use Rattle.keeper_parts.proofs.Changing.{near_alone}
-use Rattle.script_laws.specs.Causes.{CausesRise, counts_of_shelf}
-use Rattle.script_laws.specs.Leaves.{Begins}
-use Rattle.script_laws.specs.Steps.{answer_of}
-use Rattle.script_laws.specs.Strays.{StraysOf}
-use Rattle.script_laws.specs.View.{IsKept}
-use Rattle.run_laws.specs.World.{World, IsPrinted, report_text}
-use Rattle.run_laws.specs.Early.{IsSameBut}
-use Rattle.run_laws.specs.Migrating.{AreForms, GetsOf, MigratesIn, MigratesStore, StaysAsIs, RunsMigrate}
+use Rattle.state_laws.proofs.Changing.{near_alone}
+use Rattle.store_model.specs.Causes.{CausesRise, counts_of_shelf}
+use Rattle.store_model.specs.Leaves.{Begins}
+use Rattle.store_model.specs.Steps.{answer_of}
+use Rattle.store_model.specs.Strays.{StraysOf}
+use Rattle.store_model.specs.View.{IsKept}
+use Rattle.store_model.specs.World.{World, IsPrinted, report_text}
+use Rattle.store_model.specs.Early.{IsSameBut}
+use Rattle.store_model.specs.Migrating.{AreForms, GetsOf, MigratesIn, MigratesStore, StaysAsIs, RunsMigrate}
 use Rattle.run_laws.proofs.Earlier.{causes_earlier}
 
 some_near : (b : Option Blobs) (S : State) (o : Option Change) → o ≡ None → IsSomeAnd b (IsNear S o) → IsSomeAnd b (λ m. Stands m S)

@@ -14,18 +14,18 @@ use Rattle.vault_types.specs.Events.{Change}
 use Rattle.vault_types.specs.State.{State}
 use Rattle.vault_types.specs.Script.{after, is_refused}
 use Rattle.vault_traits.specs.Told.{ShelfTold, SourceTold}
-use Rattle.script_laws.specs.Calls.{BacksUpLine, RestoresLine, DeletesLine}
-use Rattle.script_laws.specs.Causes.{Counts, CausesRise, fits, counts_of_source, counts_of_sink, counts_of_shelf}
-use Rattle.script_laws.specs.Leaves.{Begins}
-use Rattle.script_laws.specs.Steps.{StepsOn, answer_of}
-use Rattle.script_laws.specs.Strays.{StraysOf}
-use Rattle.script_laws.specs.View.{IsKept}
+use Rattle.store_model.specs.Calls.{BacksUpLine, RestoresLine, DeletesLine}
+use Rattle.store_model.specs.Causes.{Counts, CausesRise, fits, counts_of_source, counts_of_sink, counts_of_shelf}
+use Rattle.store_model.specs.Leaves.{Begins}
+use Rattle.store_model.specs.Steps.{StepsOn, answer_of}
+use Rattle.store_model.specs.Strays.{StraysOf}
+use Rattle.store_model.specs.View.{IsKept}
 use Rattle.script_laws.proofs.Counting.{few_counted}
 use Rattle.script_laws.proofs.OneLine.{one_line_means}
 use Rattle.script_laws.proofs.Staying.{well_behind}
-use Rattle.run_laws.specs.World.{World, IsPrinted, report_text}
-use Rattle.run_laws.specs.Early.{IsSameBut}
-use Rattle.run_laws.specs.Courses.{RunsLine, RunsBackup, RunsRestore, RunsDelete}
+use Rattle.store_model.specs.World.{World, IsPrinted, report_text}
+use Rattle.store_model.specs.Early.{IsSameBut}
+use Rattle.store_model.specs.Courses.{RunsLine, RunsBackup, RunsRestore, RunsDelete}
 use Rattle.run_laws.proofs.Earlier.{with_store, causes_earlier, complete_earlier, means_opened}
 
 module _ {K : Type 0} (shelf : K → ShelfTold) (keeps : K → State → Option Change → Type 0) (known : K → Name → Type 0) (keeps_is : (k : K) (S : State) (other : Option Change) → keeps k S other → IsKept (shelf k) S other)

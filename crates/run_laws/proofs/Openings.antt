@@ -10,11 +10,11 @@ use Rattle.vault_types.specs.declared.Answer.{Answer}
 use Rattle.vault_types.specs.declared.Line.{Line}
 use Rattle.vault_types.specs.Words.{command_of}
 use Rattle.vault_traits.specs.Told.{ShelfTold, SourceTold}
-use Rattle.script_laws.specs.Calls.{GivesAtMost}
-use Rattle.run_laws.specs.World.{World}
-use Rattle.run_laws.specs.Early.{IsBatch, IsScript, CanOpen, IsEarly, IsStartFault, IsSameBut, LeavesShelfAlone, EndsEarly}
-use Rattle.run_laws.specs.Courses.{RunsBatch}
-use Rattle.run_laws.specs.Run.{EndsAtOpening, RanLines, RunsOpened, with_input}
+use Rattle.store_model.specs.Calls.{GivesAtMost}
+use Rattle.store_model.specs.World.{World}
+use Rattle.store_model.specs.Early.{IsBatch, IsScript, CanOpen, IsEarly, IsStartFault, IsSameBut, LeavesShelfAlone, EndsEarly}
+use Rattle.store_model.specs.Courses.{RunsBatch}
+use Rattle.store_model.specs.Run.{EndsAtOpening, RanLines, RunsOpened, with_input}
 
 early_why : (words : List (List ℕ)) (limits : Limits) (before now : World) (f : Fault) → CanOpen (command_of words) limits before.input → IsStartFault before.shelf now.shelf f → IsEarly words limits before now f
 early_why words limits before now fault.Memory can why = tt

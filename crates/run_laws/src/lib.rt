@@ -15,17 +15,17 @@ ghost use Rattle.vault_types.specs.declared.Name.{Name};
 ghost use Rattle.vault_types.specs.State.{State};
 ghost use Rattle.vault_types.specs.Words.{command_of};
 ghost use Rattle.vault_traits.specs.Told.{PlacesTold, ShelfTold, SourceTold};
-ghost use Rattle.script_laws.specs.Calls.{BacksUpLine, DeletesLine, GivesAtMost, RestoresLine};
-ghost use Rattle.script_laws.specs.Causes.{place_number, read_number};
-ghost use Rattle.script_laws.specs.Leaves.{Begins};
-ghost use Rattle.script_laws.specs.Script.{RunsLines};
-ghost use Rattle.script_laws.specs.Steps.{answer_of};
-ghost use Rattle.script_laws.specs.Strays.{StraysOf};
-ghost use Rattle.run_laws.specs.World.{World, IsPrinted, report_text};
-ghost use Rattle.run_laws.specs.Early.{CanOpen, EndsEarly, IsBatch, IsSameBut, IsScript};
-ghost use Rattle.run_laws.specs.Courses.{RunsBackup, RunsBatch, RunsDelete, RunsRestore};
-ghost use Rattle.run_laws.specs.Filling.{RunsFill};
-ghost use Rattle.run_laws.specs.Run.{EndsAtOpening, IsRun, RanLines, RunsOpened, with_input};
+ghost use Rattle.store_model.specs.Calls.{BacksUpLine, DeletesLine, GivesAtMost, RestoresLine};
+ghost use Rattle.store_model.specs.Causes.{place_number, read_number};
+ghost use Rattle.store_model.specs.Leaves.{Begins};
+ghost use Rattle.store_model.specs.Script.{RunsLines};
+ghost use Rattle.store_model.specs.Steps.{answer_of};
+ghost use Rattle.store_model.specs.Strays.{StraysOf};
+ghost use Rattle.store_model.specs.World.{World, IsPrinted, report_text};
+ghost use Rattle.store_model.specs.Early.{CanOpen, EndsEarly, IsBatch, IsSameBut, IsScript};
+ghost use Rattle.store_model.specs.Courses.{RunsBackup, RunsBatch, RunsDelete, RunsRestore};
+ghost use Rattle.store_model.specs.Filling.{RunsFill};
+ghost use Rattle.store_model.specs.Run.{EndsAtOpening, IsRun, RanLines, RunsOpened, with_input};
 
 mod migrating;
 

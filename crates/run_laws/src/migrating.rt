@@ -4,12 +4,12 @@ ghost use Rattle.vault_types.specs.declared.Answer.{Answer};
 ghost use Rattle.vault_types.specs.declared.Fault.{Fault};
 ghost use Rattle.vault_types.specs.declared.Name.{Name};
 ghost use Rattle.vault_types.specs.State.{State};
-ghost use Rattle.script_laws.specs.Leaves.{Begins};
-ghost use Rattle.script_laws.specs.Steps.{answer_of};
-ghost use Rattle.script_laws.specs.Strays.{StraysOf};
-ghost use Rattle.run_laws.specs.World.{World, IsPrinted, report_text};
-ghost use Rattle.run_laws.specs.Early.{IsSameBut};
-ghost use Rattle.run_laws.specs.Migrating.{MigratesStore, RunsMigrate};
+ghost use Rattle.store_model.specs.Leaves.{Begins};
+ghost use Rattle.store_model.specs.Steps.{answer_of};
+ghost use Rattle.store_model.specs.Strays.{StraysOf};
+ghost use Rattle.store_model.specs.World.{World, IsPrinted, report_text};
+ghost use Rattle.store_model.specs.Early.{IsSameBut};
+ghost use Rattle.store_model.specs.Migrating.{MigratesStore, RunsMigrate};
 
 use script_laws::StateKeeper;
 

@@ -9,8 +9,8 @@ use Rattle.vault_types.specs.declared.Fault.{Fault}
 use Rattle.vault_types.specs.declared.Fault.TheVariants as fault
 use Rattle.vault_types.specs.Words.{script_of}
 use Rattle.vault_traits.specs.Told.{SourceTold, Gives}
-use Rattle.script_laws.specs.Calls.{GivesAtMost}
-use Rattle.run_laws.specs.Early.{IsScript, IsScriptFault}
+use Rattle.store_model.specs.Calls.{GivesAtMost}
+use Rattle.store_model.specs.Early.{IsScript, IsScriptFault}
 use Rattle.script_input.specs.Reading.{HasGiven, IsAtEnd, IsTextFault}
 
 gives_nothing : (left : Option (List ℕ)) → Gives left left []

@@ -3,10 +3,10 @@
 
 ghost use Rattle.std.specs.Prelude.{◌≡◌, ◌≤◌, ◌<◌, ◌+◌, ◌++◌, ℕ, List, length, IfOk, IfErr, OnOk};
 ghost use Rattle.std.specs.List.{AllByRecursion};
-ghost use Rattle.script_laws.specs.Calls.{GivesAtMost};
-ghost use Rattle.script_laws.specs.Outputs.{AreApartLines};
-ghost use Rattle.run_laws.specs.Early.{IsScript, IsScriptFault};
-ghost use Rattle.word_ranges.specs.Ranges.{AreLimits, IsLineInRange};
+ghost use Rattle.store_model.specs.Calls.{GivesAtMost};
+ghost use Rattle.store_model.specs.Outputs.{AreApartLines};
+ghost use Rattle.store_model.specs.Early.{IsScript, IsScriptFault};
+ghost use Rattle.store_model.specs.Ranges.{AreLimits, IsLineInRange};
 ghost use Rattle.script_input.specs.Reading.{IsTextFault, HasGiven, IsAtEnd};
 
 use script_words::read_script;

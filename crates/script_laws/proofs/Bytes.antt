@@ -22,12 +22,12 @@ use Rattle.vault_types.specs.Refusals.{refuses_by_state, IsExact}
 use Rattle.vault_types.proofs.GrowLemmas.{version_of-new, version_of-kept}
 use Rattle.vault_types.proofs.NextLemmas.{backed_up_bytes}
 use Rattle.vault_types.proofs.StateLemmas.{own_version}
-use Rattle.keeper_parts.proofs.Changing.{version_low}
-use Rattle.keeper_parts.proofs.Growing as growing
-use Rattle.deletion_laws.proofs.Shrinking as shrinking
-use Rattle.script_laws.specs.Complete.{IsWell}
-use Rattle.script_laws.specs.Keeping.{MakesVersion, MakeVersion, HasBytesOf, KeepBytes}
-use Rattle.script_laws.specs.Table.{MeanLines}
+use Rattle.state_laws.proofs.Changing.{version_low}
+use Rattle.state_laws.proofs.Growing as growing
+use Rattle.state_laws.proofs.Shrinking as shrinking
+use Rattle.store_model.specs.Complete.{IsWell}
+use Rattle.store_model.specs.Keeping.{MakesVersion, MakeVersion, HasBytesOf, KeepBytes}
+use Rattle.store_model.specs.Table.{MeanLines}
 use Rattle.script_laws.proofs.Staying.{in_range, set_past, get_past, below_set, clash_of_source, bytes_kept, well_behind}
 
 -- all is well before each line, each is answered, and the states are valid

@@ -4,7 +4,7 @@ use Rattle.std.proofs.Math.Seq.{drop-cons, drop-length}
 use Rattle.std.proofs.lemmas.List.{append-nil}
 use Rattle.vault_types.specs.declared.Answer.{Answer}
 use Rattle.vault_types.specs.declared.Line.{Line}
-use Rattle.script_laws.specs.Steps.{Chain}
+use Rattle.store_model.specs.Steps.{Chain}
 
 -- whatever goes on from now over the lines that are left, goes on from the start over all of them
 pub record Chained {M : Type 0} (Step : M → Line → Answer → M → Type 0) (start : M) (lines : List Line) (i : ℕ) (answers : List Answer) (now : M) : Type 0 where

@@ -11,20 +11,20 @@ use Rattle.vault_types.specs.Shelf.{Blobs, Stands}
 use Rattle.vault_types.specs.Events.{Change, IsNear, IsChange}
 use Rattle.vault_traits.specs.Told.{ShelfTold, Files}
 use Rattle.vault_traits.proofs.Moments.{more_now}
-use Rattle.script_laws.specs.Causes.{AreFitting, CausesRise, Counts, counts_over, store_number, place_number, read_number, write_number}
-use Rattle.script_laws.specs.Leaves.{MayBeDone, StandsOrNearly}
+use Rattle.store_model.specs.Causes.{AreFitting, CausesRise, Counts, counts_over, store_number, place_number, read_number, write_number}
+use Rattle.store_model.specs.Leaves.{MayBeDone, StandsOrNearly}
 use Rattle.vault_types.specs.Bytes.{IsSound}
-use Rattle.script_laws.specs.Complete.{IsWell, IsComplete}
+use Rattle.store_model.specs.Complete.{IsWell, IsComplete}
 use Rattle.script_laws.proofs.Staying.{AreWell, well_alone, well_behind, wide, wide_well}
 use Rattle.script_laws.proofs.Bytes.{Goes, GoesOn, between, keep_bytes, kept_on, kept_same, reached_behind}
-use Rattle.script_laws.specs.Recipes.{KeepsForms}
+use Rattle.store_model.specs.Recipes.{KeepsForms}
 use Rattle.script_laws.proofs.Forms.{forms_then, same_forms}
-use Rattle.script_laws.specs.Table.{MeanLines}
-use Rattle.script_laws.specs.Outputs.{AreApartLines, OnFiles, KeepsOthers, AreOutputs}
-use Rattle.script_laws.specs.Script.{MeansScript, RunsLines}
-use Rattle.script_laws.specs.Strays.{StraysOf}
-use Rattle.script_laws.specs.View.{IsKept}
-use Rattle.script_laws.specs.Steps.{Moment, StepsLine, Chain}
+use Rattle.store_model.specs.Table.{MeanLines}
+use Rattle.store_model.specs.Outputs.{AreApartLines, OnFiles, KeepsOthers, AreOutputs}
+use Rattle.store_model.specs.Script.{MeansScript, RunsLines}
+use Rattle.store_model.specs.Strays.{StraysOf}
+use Rattle.store_model.specs.View.{IsKept}
+use Rattle.store_model.specs.Steps.{Moment, StepsLine, Chain}
 use Rattle.script_laws.proofs.Rising.{rise_more}
 use Rattle.script_laws.proofs.Ordering.{causes_in_order}
 use Rattle.script_laws.proofs.Names.{files_then, others_then}

@@ -8,8 +8,8 @@ use Rattle.vault_types.specs.declared.Fault.TheVariants as fault
 use Rattle.vault_types.specs.declared.Answer.{Answer}
 use Rattle.vault_types.specs.declared.Answer.TheVariants.{Stored, Restored, Removed, Shown, Migrated, Scrubbed, Refused}
 use Rattle.vault_traits.specs.Counts.{RiseFrom}
-use Rattle.script_laws.specs.Causes.{Counts, CausesRise, store_number, place_number, read_number, write_number}
-use Rattle.script_laws.specs.Complete.{is_counted, AreBelowLast}
+use Rattle.store_model.specs.Causes.{Counts, CausesRise, store_number, place_number, read_number, write_number}
+use Rattle.store_model.specs.Complete.{is_counted, AreBelowLast}
 
 -- below the last value each number that rises is one more
 pub rise_counts : (a b : ℕ) (ns : List ℕ) → b < 2 ^ 64 - 1 → RiseFrom a ns b → a + length ns ≤ b

@@ -13,9 +13,9 @@ use Rattle.vault_types.specs.Events.{Change, IsNear}
 use Rattle.vault_traits.specs.Crash.{History, LeavesNowIfTold, LeavesOnlyIfTold}
 use Rattle.vault_traits.specs.Told.{ShelfTold}
 use Rattle.vault_traits.proofs.Moments.{then, ends, more, more_now, stays}
-use Rattle.script_laws.specs.Leaves.{is_change, has_change, MayBeDone, StandsForOne, IsOr, HalfBehind, BearsLines, BearsOnceDone}
-use Rattle.script_laws.specs.View.{IsKept}
-use Rattle.script_laws.specs.Steps.{Moment, IsNextOther, BearsStep, StandsWith}
+use Rattle.store_model.specs.Leaves.{is_change, has_change, MayBeDone, StandsForOne, IsOr, HalfBehind, BearsLines, BearsOnceDone}
+use Rattle.store_model.specs.View.{IsKept}
+use Rattle.store_model.specs.Steps.{Moment, IsNextOther, BearsStep, StandsWith}
 use Rattle.script_laws.proofs.Following.{Follows, near_with, half_step, stand_more, reaches_start}
 
 -- ---- of lines that are told
@@ -268,11 +268,11 @@ settled_at_the_end sources S [] answers new once is = absurd (let clash : false 
 settled_at_the_end sources S (line ∷ lines) [] new once is = absurd (let clash : false ≡ true = is in cc)
 settled_at_the_end sources S (line ∷ lines) (answer ∷ answers) new once is =
     more_now (StandsForOne (IsOr (state_after sources (after sources S line answer) lines answers) (MayBeDone sources (after sources S line answer) lines answers)))
-        (StandsForOne (IsOr (state_after sources S (line ∷ lines) (answer ∷ answers)) (MayBeDone sources S (line ∷ lines) (answer ∷ answers))))
-        (stand_more _ _ (λ T h. ⊎_elim (λ e. inl e) (λ left. inr (inr left)) h)) new
-        (⊎_elim (λ here. let done = once.0 here in alone_at_the_end sources (after sources S line answer) lines answers done.0 new done.2)
-        (λ later. settled_at_the_end sources (after sources S line answer) lines answers new once.1 later)
-        (one_of_both (is_change line answer) (has_change lines answers) is))
+    (StandsForOne (IsOr (state_after sources S (line ∷ lines) (answer ∷ answers)) (MayBeDone sources S (line ∷ lines) (answer ∷ answers))))
+    (stand_more _ _ (λ T h. ⊎_elim (λ e. inl e) (λ left. inr (inr left)) h)) new
+    (⊎_elim (λ here. let done = once.0 here in alone_at_the_end sources (after sources S line answer) lines answers done.0 new done.2)
+    (λ later. settled_at_the_end sources (after sources S line answer) lines answers new once.1 later)
+    (one_of_both (is_change line answer) (has_change lines answers) is))
   where
     one_of_both : (a b : Bool) → IsTrue (a || b) → IsTrue a ⊎ IsTrue b
     one_of_both true b h = inl refl

@@ -15,12 +15,12 @@ use Rattle.vault_traits.specs.Counts.{counted_up}
 use Rattle.vault_types.specs.Shelf.{Blobs}
 use Rattle.vault_types.specs.Events.{Change, IsNear}
 use Rattle.vault_traits.specs.Told.{ShelfTold, Files}
-use Rattle.script_laws.specs.Table.{MeanLines}
-use Rattle.script_laws.specs.Leaves.{has_change, MayBeDone, StandsForOne, HalfBehind, HasLoaded}
-use Rattle.script_laws.specs.Complete.{AreWellAnswered}
-use Rattle.script_laws.specs.Outputs.{OnFiles, KeepsOthers, IsOutputOf, AreOutputs, AreApartFrom, Reads, AreRead, AreFed, AreThere}
-use Rattle.script_laws.specs.Strays.{IsNumberedBy, MayStayBehind, MayStay, StraysAreKnown}
-use Rattle.script_laws.specs.Steps.{Moment, StepsLine, StepsOn, IsNextOther, StandsWith, Chain}
+use Rattle.store_model.specs.Table.{MeanLines}
+use Rattle.store_model.specs.Leaves.{has_change, MayBeDone, StandsForOne, HalfBehind, HasLoaded}
+use Rattle.store_model.specs.Complete.{AreWellAnswered}
+use Rattle.store_model.specs.Outputs.{OnFiles, KeepsOthers, IsOutputOf, AreOutputs, AreApartFrom, Reads, AreRead, AreFed, AreThere}
+use Rattle.store_model.specs.Strays.{IsNumberedBy, MayStayBehind, MayStay, StraysAreKnown}
+use Rattle.store_model.specs.Steps.{Moment, StepsLine, StepsOn, IsNextOther, StandsWith, Chain}
 use Rattle.script_laws.proofs.Staying.{AreWell}
 use Rattle.script_laws.proofs.Rising.{counted_up_twice}
 use Rattle.script_laws.proofs.Names.{files_then, others_then, all_front, all_back, read_then, there_then, output_then, outputs_then}

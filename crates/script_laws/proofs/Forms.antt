@@ -8,11 +8,11 @@ use Rattle.vault_types.specs.State.{State, Dataset, KeptVersion, empty_dataset, 
 use Rattle.vault_types.specs.Backup.{backup, filling, version_from}
 use Rattle.vault_types.specs.Delete.{delete}
 use Rattle.vault_types.specs.Shelf.{Blobs}
-use Rattle.keeper_parts.specs.Recipes.{IsSecond, KeepsRecipes}
-use Rattle.keeper_parts.proofs.Changing.{version_low, version_high}
-use Rattle.keeper_parts.proofs.Growing as growing
-use Rattle.deletion_laws.proofs.Shrinking as shrinking
-use Rattle.script_laws.specs.Recipes.{KeepsForms}
+use Rattle.vault_types.specs.RecipeForms.{IsSecond, KeepsRecipes}
+use Rattle.state_laws.proofs.Changing.{version_low, version_high}
+use Rattle.state_laws.proofs.Growing as growing
+use Rattle.state_laws.proofs.Shrinking as shrinking
+use Rattle.store_model.specs.Recipes.{KeepsForms}
 use Rattle.script_laws.proofs.Staying.{in_range, set_past, get_past, below_set}
 
 -- a version is of a set that is there

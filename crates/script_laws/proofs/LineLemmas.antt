@@ -28,14 +28,14 @@ use Rattle.vault_traits.specs.Told.{ShelfTold, SourceTold, Files}
 use Rattle.std.proofs.lemmas.List.Elements.{Contains-push}
 use Rattle.vault_traits.specs.Files.{AreKept, IsReaderOf, ChangesOnly, IsEmptied, IsThere}
 use Rattle.vault_traits.proofs.Moments.{stays, more_now}
-use Rattle.script_laws.specs.Causes.{CausesRise, fits, place_number, read_number, write_number}
-use Rattle.script_laws.specs.Table.{MeansLine, MayBeAnswer, ShowsDamage}
-use Rattle.script_laws.specs.Leaves.{Gets}
-use Rattle.script_laws.specs.Complete.{IsWellAnswered}
-use Rattle.script_laws.specs.Outputs.{OnFiles, KeepsOthers, AreFedBy, HasFront, IsOutput, IsOutputOf}
-use Rattle.script_laws.specs.Strays.{MayStayBehind}
-use Rattle.script_laws.specs.Steps.{StepsOn, StandsWith, read_numbered, write_numbered}
-use Rattle.script_laws.specs.Calls.{HasWritten, writes_all}
+use Rattle.store_model.specs.Causes.{CausesRise, fits, place_number, read_number, write_number}
+use Rattle.store_model.specs.Table.{MeansLine, MayBeAnswer, ShowsDamage}
+use Rattle.store_model.specs.Leaves.{Gets}
+use Rattle.store_model.specs.Complete.{IsWellAnswered}
+use Rattle.store_model.specs.Outputs.{OnFiles, KeepsOthers, AreFedBy, HasFront, IsOutput, IsOutputOf}
+use Rattle.store_model.specs.Strays.{MayStayBehind}
+use Rattle.store_model.specs.Steps.{StepsOn, StandsWith, read_numbered, write_numbered}
+use Rattle.store_model.specs.Calls.{HasWritten, writes_all}
 use Rattle.script_laws.proofs.Following.{near_with}
 use Rattle.script_laws.proofs.Forms.{same_forms}
 

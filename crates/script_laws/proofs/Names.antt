@@ -15,7 +15,7 @@ use Rattle.vault_traits.specs.Told.{Files}
 use Rattle.vault_types.specs.declared.Answer.{Answer}
 use Rattle.vault_types.specs.State.{State}
 use Rattle.vault_types.specs.Bytes.{bytes_of}
-use Rattle.script_laws.specs.Outputs.{KeepsOthers, OnFiles, AreFedBy, Reads, AreRead, AreFed, AreThere, AreApartFrom, IsOutput, IsOutputOf, AreOutputs}
+use Rattle.store_model.specs.Outputs.{KeepsOthers, OnFiles, AreFedBy, Reads, AreRead, AreFed, AreThere, AreApartFrom, IsOutput, IsOutputOf, AreOutputs}
 
 pub or_left : (a b : Bool) → (a || b) ≡ false → a ≡ false
 or_left true b e = e

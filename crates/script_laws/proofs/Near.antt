@@ -6,8 +6,8 @@ use Rattle.vault_types.specs.Blobs.{floor_bytes}
 use Rattle.vault_types.specs.Shelf.{Blobs, with_blob, recipe_name, floor_name, Stands, StandsNearly}
 use Rattle.vault_types.specs.Events.{Change, HasChange, IsChange}
 use Rattle.vault_traits.proofs.Maps.{with_blob_twice}
-use Rattle.keeper_parts.proofs.Standing.{free_write}
-use Rattle.keeper_parts.proofs.Changing.{next_free, floor_write}
+use Rattle.state_laws.proofs.Standing.{free_write}
+use Rattle.state_laws.proofs.Changing.{next_free, floor_write}
 
 -- a later write of the change's name takes it back
 written_over : (S : State) (h : Change) (m : Blobs) (name : Name) (bytes : Option (List ℕ)) → h.name ≡ name → (has : HasChange S h m) → with_blob has.before name bytes ≡ with_blob m name bytes

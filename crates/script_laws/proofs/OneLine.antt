@@ -7,11 +7,11 @@ use Rattle.vault_types.specs.declared.Line.{Line}
 use Rattle.vault_types.specs.State.{State}
 use Rattle.vault_types.specs.Script.{Sources, after}
 use Rattle.vault_traits.specs.Told.{ShelfTold, PlacesTold}
-use Rattle.script_laws.specs.Script.{MeansScript}
-use Rattle.script_laws.specs.Strays.{StraysOf}
-use Rattle.script_laws.specs.View.{IsKept}
+use Rattle.store_model.specs.Script.{MeansScript}
+use Rattle.store_model.specs.Strays.{StraysOf}
+use Rattle.store_model.specs.View.{IsKept}
 use Rattle.vault_types.specs.Events.{Change}
-use Rattle.script_laws.specs.Steps.{Moment, StepsOn}
+use Rattle.store_model.specs.Steps.{Moment, StepsOn}
 use Rattle.script_laws.proofs.Composed.{means}
 
 -- places that tell nothing

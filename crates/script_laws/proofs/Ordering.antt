@@ -6,7 +6,7 @@ use Rattle.vault_types.specs.declared.Answer.{Answer}
 use Rattle.vault_types.specs.declared.Line.{Line}
 use Rattle.vault_types.specs.declared.Line.TheVariants.{Backup, Restore, Delete}
 use Rattle.vault_traits.specs.Counts.{RiseFrom}
-use Rattle.script_laws.specs.Causes.{Counts, CausesRise, HasCauses, RiseInSomeOrder, answers_of_changes, store_number}
+use Rattle.store_model.specs.Causes.{Counts, CausesRise, HasCauses, RiseInSomeOrder, answers_of_changes, store_number}
 use Rattle.script_laws.proofs.Rising.{rise_lower}
 
 -- in script order they rise in some order, too

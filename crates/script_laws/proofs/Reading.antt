@@ -9,7 +9,7 @@ use Rattle.vault_types.specs.declared.Line.{Line}
 use Rattle.vault_types.specs.Words.{sources_of}
 use Rattle.vault_types.specs.Script.{Sources}
 use Rattle.vault_traits.specs.Told.{Files}
-use Rattle.script_laws.specs.Outputs.{Reads, AreRead, AreFed}
+use Rattle.store_model.specs.Outputs.{Reads, AreRead, AreFed}
 
 abbrev bytes_of_name : Reads → Sources
 bytes_of_name [] name = []

@@ -18,11 +18,11 @@ use Rattle.vault_types.specs.Words.{sources_of, outputs_of}
 use Rattle.vault_traits.specs.Counts.{counted}
 use Rattle.vault_traits.specs.Files.{FailsOnlyFull, IsNewWriter}
 use Rattle.vault_traits.specs.Told.{ShelfTold, SinkTold, Files}
-use Rattle.script_laws.specs.Calls.{IsShortAt}
-use Rattle.script_laws.specs.Causes.{CausesRise, counts_of_sink}
-use Rattle.script_laws.specs.Outputs.{AreApartFrom, AreFedBy, KeepsOthers, OnFiles}
-use Rattle.script_laws.specs.Steps.{Chain, Moment, StepsLine, write_numbered}
-use Rattle.script_laws.specs.Room.{NeedRoom, NeedsRoom, StepsWithin}
+use Rattle.store_model.specs.Calls.{IsShortAt}
+use Rattle.store_model.specs.Causes.{CausesRise, counts_of_sink}
+use Rattle.store_model.specs.Outputs.{AreApartFrom, AreFedBy, KeepsOthers, OnFiles}
+use Rattle.store_model.specs.Steps.{Chain, Moment, StepsLine, write_numbered}
+use Rattle.store_model.specs.Room.{NeedRoom, NeedsRoom, StepsWithin}
 use Rattle.script_laws.proofs.Names.{fed_first, fed_rest, fed_told}
 
 -- a restore that was done needs no room

@@ -29,11 +29,11 @@ use Rattle.vault_types.proofs.GrowLemmas.{version_of-new, container_in-more}
 use Rattle.vault_types.proofs.NextLemmas.{backed_up_bytes}
 use Rattle.vault_types.proofs.SetLemmas.{has-set_of}
 use Rattle.vault_types.proofs.StateLemmas.{container-kept}
-use Rattle.keeper_parts.proofs.Growing as growing
-use Rattle.keeper_parts.proofs.Growing.{floor_pos, rows_of}
-use Rattle.deletion_laws.proofs.Members.{here, later, no_member, first_or_rest, filter_within, container_in-is}
-use Rattle.deletion_laws.proofs.Shrinking as shrinking
-use Rattle.deletion_laws.proofs.Shrinking.{has_all}
+use Rattle.state_laws.proofs.Growing as growing
+use Rattle.state_laws.proofs.Growing.{floor_pos, rows_of}
+use Rattle.state_laws.proofs.Members.{here, later, no_member, first_or_rest, filter_within, container_in-is}
+use Rattle.state_laws.proofs.Shrinking as shrinking
+use Rattle.state_laws.proofs.Shrinking.{has_all}
 
 -- ---- lists
 

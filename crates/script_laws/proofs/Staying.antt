@@ -16,11 +16,11 @@ use Rattle.vault_types.specs.Tables.{Container, id_of}
 use Rattle.vault_types.specs.State.{State, Dataset, KeptVersion, empty_dataset, latest_in, latest_of, named_in, version_of, IsValid}
 use Rattle.vault_types.specs.Bytes.{all_chunks, bytes_of, IsSound}
 use Rattle.vault_types.specs.Backup.{backup, filling, version_from}
-use Rattle.keeper_parts.proofs.Growing as growing
-use Rattle.deletion_laws.proofs.Shrinking as shrinking
+use Rattle.state_laws.proofs.Growing as growing
+use Rattle.state_laws.proofs.Shrinking as shrinking
 use Rattle.vault_types.specs.Delete.{delete}
 use Rattle.vault_types.specs.Script.{Sources, after, after_line, is_refused, IsAnswer, IsDone}
-use Rattle.script_laws.specs.Complete.{IsSafe, IsWell, chunks_of_line}
+use Rattle.store_model.specs.Complete.{IsSafe, IsWell, chunks_of_line}
 use Rattle.script_laws.proofs.Sound.{backup_sound, chunks_backed_up, chunks_kept, delete_sound}
 
 -- at each line all is well

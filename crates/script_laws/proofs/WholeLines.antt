@@ -15,12 +15,12 @@ use Rattle.vault_types.specs.Bytes.{bytes_of}
 use Rattle.vault_traits.specs.Counts.{added, Rose}
 use Rattle.vault_traits.specs.Told.{ShelfTold, PlacesTold, SourceTold, SinkTold, Files}
 use Rattle.vault_traits.specs.Files.{AreKept, ChangesOnly, IsEmptied, IsReaderOf, IsThere, MayBeEmptied, IsWhatWasTaken}
-use Rattle.script_laws.specs.Causes.{CausesRise, counts_of_source, counts_of_sink}
+use Rattle.store_model.specs.Causes.{CausesRise, counts_of_source, counts_of_sink}
 use Rattle.vault_types.specs.Events.{Change}
 use Rattle.vault_types.specs.Script.{Sources, after}
-use Rattle.script_laws.specs.Outputs.{Reads}
-use Rattle.script_laws.specs.Steps.{answer_of, StepsLine, StepsOn, read_numbered, write_numbered}
-use Rattle.script_laws.specs.Calls.{AroundSink, AroundSource, BacksUpLine, DeletesLine, RestoresLine, backup_answer, restore_answer}
+use Rattle.store_model.specs.Outputs.{Reads}
+use Rattle.store_model.specs.Steps.{answer_of, StepsLine, StepsOn, read_numbered, write_numbered}
+use Rattle.store_model.specs.Calls.{AroundSink, AroundSource, BacksUpLine, DeletesLine, RestoresLine, backup_answer, restore_answer}
 use Rattle.script_laws.proofs.LineLemmas.{unmoved, full_means, not_full_means, not_kept_means, place_means, memory_means, as_backup, as_restore, read_steps, read_kind, write_steps, write_kind, causes_source, causes_read, causes_sink, causes_write, done_no_read, done_no_write, kind_backup, kind_restore, kept_files, kept_twice, same_files, no_output, changes_files, changes_twice, output_of_change, same_output, written_output, numbered_output, no_gets, as_delete, causes_alone, full_is, not_kept_is}
 
 own_set : (s : ℕ) → Rattle.std.specs.Prelude.nat_eq s s ≡ true

@@ -27,15 +27,15 @@ ghost use Rattle.vault_traits.specs.Counts.{RiseFrom, Rose};
 ghost use Rattle.vault_traits.specs.Crash.{History, LeavesNowIfTold, LeavesOnlyIfTold};
 ghost use Rattle.vault_traits.specs.Files.{AreKept, ChangesOnly, MayBeEmptied};
 ghost use Rattle.vault_traits.specs.Told.{Files, PlacesTold, ShelfTold, SinkTold, SourceTold};
-ghost use Rattle.script_laws.specs.Calls.{AroundSink, AroundSource, BacksUpLine, DeletesLine, RestoresLine, backup_answer, restore_answer};
-ghost use Rattle.script_laws.specs.Causes.{CausesRise, Counts};
-ghost use Rattle.script_laws.specs.Complete.{AreBelowLast, IsWell, is_counted};
-ghost use Rattle.script_laws.specs.Leaves.{BearsLines, BearsOnceDone, IsOr, MayBeDone, StandsForOne, has_change};
-ghost use Rattle.script_laws.specs.Outputs.{AreApartLines, AreFed, AreFedBy, AreRead, Reads};
-ghost use Rattle.script_laws.specs.Script.{MeansScript, RunsLines};
-ghost use Rattle.script_laws.specs.Strays.{StraysOf};
-ghost use Rattle.script_laws.specs.Steps.{Chain, Moment, StepsLine, StepsOn, answer_of};
-ghost use Rattle.script_laws.specs.View.{IsKept};
+ghost use Rattle.store_model.specs.Calls.{AroundSink, AroundSource, BacksUpLine, DeletesLine, RestoresLine, backup_answer, restore_answer};
+ghost use Rattle.store_model.specs.Causes.{CausesRise, Counts};
+ghost use Rattle.store_model.specs.Complete.{AreBelowLast, IsWell, is_counted};
+ghost use Rattle.store_model.specs.Leaves.{BearsLines, BearsOnceDone, IsOr, MayBeDone, StandsForOne, has_change};
+ghost use Rattle.store_model.specs.Outputs.{AreApartLines, AreFed, AreFedBy, AreRead, Reads};
+ghost use Rattle.store_model.specs.Script.{MeansScript, RunsLines};
+ghost use Rattle.store_model.specs.Strays.{StraysOf};
+ghost use Rattle.store_model.specs.Steps.{Chain, Moment, StepsLine, StepsOn, answer_of};
+ghost use Rattle.store_model.specs.View.{IsKept};
 
 /// Whatever keeps the state of a store on a shelf. The laws speak of any.
 pub trait StateKeeper {

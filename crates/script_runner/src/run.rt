@@ -5,12 +5,12 @@ ghost use Rattle.vault_types.specs.Events.{Change};
 ghost use Rattle.vault_types.specs.Script.{Sources};
 ghost use Rattle.vault_types.specs.State.{State};
 ghost use Rattle.vault_types.specs.declared.Line.TheVariants as line;
-ghost use Rattle.backup_pass.specs.Passing.{IsInRange};
-ghost use Rattle.script_laws.specs.Outputs.{AreApartLines, AreFedBy};
-ghost use Rattle.script_laws.specs.Room.{NeedsRoom, NeedRoom};
-ghost use Rattle.script_laws.specs.Script.{RunsLines};
-ghost use Rattle.script_laws.specs.Steps.{StepsLine, read_numbered, write_numbered};
-ghost use Rattle.word_ranges.specs.Ranges.{IsLineInRange, AreLimits};
+ghost use Rattle.vault_types.specs.JobRanges.{IsInRange};
+ghost use Rattle.store_model.specs.Outputs.{AreApartLines, AreFedBy};
+ghost use Rattle.store_model.specs.Room.{NeedsRoom, NeedRoom};
+ghost use Rattle.store_model.specs.Script.{RunsLines};
+ghost use Rattle.store_model.specs.Steps.{StepsLine, read_numbered, write_numbered};
+ghost use Rattle.store_model.specs.Ranges.{IsLineInRange, AreLimits};
 
 use crate::store::Store;
 use std::alloc::Global;

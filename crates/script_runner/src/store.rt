@@ -2,8 +2,8 @@
 ghost use Rattle.std.specs.Prelude.{◌≡◌, ◌≤◌, Option};
 ghost use Rattle.vault_types.specs.Events.{Change};
 ghost use Rattle.vault_types.specs.State.{State, is_full, is_kept, floor_of, latest_of, next_of};
-ghost use Rattle.backup_pass.specs.Passing.{IsInRange};
-ghost use Rattle.script_laws.specs.Calls.{BacksUpLine, DeletesLine, RestoresLine};
+ghost use Rattle.vault_types.specs.JobRanges.{IsInRange};
+ghost use Rattle.store_model.specs.Calls.{BacksUpLine, DeletesLine, RestoresLine};
 
 use script_laws::StateKeeper;
 use std::alloc::Global;

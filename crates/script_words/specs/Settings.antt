@@ -6,7 +6,7 @@ use Rattle.vault_types.specs.Words.{Allowed, Number, Word, Kinds, Settings, numb
 use Rattle.script_words.specs.declared.settings.Setting.{Setting}
 use Rattle.script_words.specs.declared.kinds.Range.{Range}
 use Rattle.script_words.specs.declared.kinds.Range.TheVariants as range
-use Rattle.script_words.specs.declared.kinds.Kind.{Kind}
+use Rattle.script_words.specs.declared.kinds.SettingKind.{SettingKind}
 
 -- a setting as a pair of a name and a value
 abbrev pub pair_of : Setting → List ℕ × List ℕ
@@ -20,7 +20,7 @@ allowed_of (range.Number low high) = Number low high
 allowed_of (range.Word texts) = Word (map (λ t. t.now) texts.now)
 
 -- the rows of a table of settings
-abbrev pub kinds_of : List Kind → Kinds
+abbrev pub kinds_of : List SettingKind → Kinds
 kinds_of kinds = map (λ k. (k.name.now, allowed_of k.range)) kinds
 
 -- the greatest number that a name's value may be

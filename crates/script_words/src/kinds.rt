@@ -16,17 +16,17 @@ pub(crate) enum Range {
 
 /// A setting that there may be.
 #[derive(Clone, Copy)]
-pub(crate) struct Kind {
+pub(crate) struct SettingKind {
     name: &'static [u8],
     range: Range,
 }
 
-const SET: Kind = Kind {
+const SET: SettingKind = SettingKind {
     name: b"set",
     range: Range::Number { low: 0, high: 255 },
 };
 
-const SIZE: Kind = Kind {
+const SIZE: SettingKind = SettingKind {
     name: b"size",
     range: Range::Number {
         low: 1,
@@ -34,7 +34,7 @@ const SIZE: Kind = Kind {
     },
 };
 
-const WINDOW: Kind = Kind {
+const WINDOW: SettingKind = SettingKind {
     name: b"window",
     range: Range::Number {
         low: 1,
@@ -42,7 +42,7 @@ const WINDOW: Kind = Kind {
     },
 };
 
-const MAX: Kind = Kind {
+const MAX: SettingKind = SettingKind {
     name: b"max",
     range: Range::Number {
         low: 2,
@@ -50,7 +50,7 @@ const MAX: Kind = Kind {
     },
 };
 
-const SEGMENT: Kind = Kind {
+const SEGMENT: SettingKind = SettingKind {
     name: b"segment",
     range: Range::Number {
         low: 1,
@@ -58,7 +58,7 @@ const SEGMENT: Kind = Kind {
     },
 };
 
-const CAP: Kind = Kind {
+const CAP: SettingKind = SettingKind {
     name: b"cap",
     range: Range::Number {
         low: 1,
@@ -66,17 +66,17 @@ const CAP: Kind = Kind {
     },
 };
 
-const THRESHOLD: Kind = Kind {
+const THRESHOLD: SettingKind = SettingKind {
     name: b"threshold",
     range: Range::Number { low: 0, high: 100 },
 };
 
-const LIMIT: Kind = Kind {
+const LIMIT: SettingKind = SettingKind {
     name: b"limit",
     range: Range::Number { low: 0, high: 100 },
 };
 
-const CONTAINER: Kind = Kind {
+const CONTAINER: SettingKind = SettingKind {
     name: b"container",
     range: Range::Number {
         low: 1,
@@ -84,7 +84,7 @@ const CONTAINER: Kind = Kind {
     },
 };
 
-const QUEUE: Kind = Kind {
+const QUEUE: SettingKind = SettingKind {
     name: b"queue",
     range: Range::Number {
         low: 1,
@@ -92,22 +92,22 @@ const QUEUE: Kind = Kind {
     },
 };
 
-const LANES: Kind = Kind {
+const LANES: SettingKind = SettingKind {
     name: b"lanes",
     range: Range::Number { low: 1, high: 8 },
 };
 
-const WORKERS: Kind = Kind {
+const WORKERS: SettingKind = SettingKind {
     name: b"workers",
     range: Range::Number { low: 1, high: 8 },
 };
 
-const CACHE: Kind = Kind {
+const CACHE: SettingKind = SettingKind {
     name: b"cache",
     range: Range::Number { low: 1, high: 64 },
 };
 
-const AREA: Kind = Kind {
+const AREA: SettingKind = SettingKind {
     name: b"area",
     range: Range::Number {
         low: 65_536,
@@ -115,7 +115,7 @@ const AREA: Kind = Kind {
     },
 };
 
-const SAMPLE: Kind = Kind {
+const SAMPLE: SettingKind = SettingKind {
     name: b"sample",
     range: Range::Number {
         low: 1,
@@ -123,12 +123,12 @@ const SAMPLE: Kind = Kind {
     },
 };
 
-const PREFETCH: Kind = Kind {
+const PREFETCH: SettingKind = SettingKind {
     name: b"prefetch",
     range: Range::Number { low: 1, high: 16 },
 };
 
-const VERSION: Kind = Kind {
+const VERSION: SettingKind = SettingKind {
     name: b"version",
     range: Range::Number {
         low: 0,
@@ -136,7 +136,7 @@ const VERSION: Kind = Kind {
     },
 };
 
-const THROUGH: Kind = Kind {
+const THROUGH: SettingKind = SettingKind {
     name: b"through",
     range: Range::Number {
         low: 0,
@@ -144,7 +144,7 @@ const THROUGH: Kind = Kind {
     },
 };
 
-const SEED: Kind = Kind {
+const SEED: SettingKind = SettingKind {
     name: b"seed",
     range: Range::Number {
         low: 0,
@@ -152,23 +152,23 @@ const SEED: Kind = Kind {
     },
 };
 
-const VERSIONS: Kind = Kind {
+const VERSIONS: SettingKind = SettingKind {
     name: b"versions",
     range: Range::Number { low: 1, high: 64 },
 };
 
-const CHUNK: Kind = Kind {
+const CHUNK: SettingKind = SettingKind {
     name: b"chunk",
     range: Range::Word(&[b"fixed", b"ae"]),
 };
 
-const REWRITE: Kind = Kind {
+const REWRITE: SettingKind = SettingKind {
     name: b"rewrite",
     range: Range::Word(&[b"none", b"cap", b"har", b"both"]),
 };
 
 /// The settings of a backup.
-pub(crate) fn backup_kinds() -> [Kind; 15]
+pub(crate) fn backup_kinds() -> [SettingKind; 15]
     ensures rows { kinds_of result ≡ spec.set_kind ++ spec.job_kinds ++ spec.queue_kinds ++ spec.sample_kinds }
     ensures fit { kinds_fit (kinds_of result) ≡ true }
 {
@@ -179,7 +179,7 @@ pub(crate) fn backup_kinds() -> [Kind; 15]
 }
 
 /// The settings of a restore.
-pub(crate) fn restore_kinds() -> [Kind; 4]
+pub(crate) fn restore_kinds() -> [SettingKind; 4]
     ensures rows { kinds_of result ≡ spec.set_kind ++ spec.version_kind (codes "version") ++ spec.cache_kind ++ spec.area_kind }
     ensures fit { kinds_fit (kinds_of result) ≡ true }
 {
@@ -187,7 +187,7 @@ pub(crate) fn restore_kinds() -> [Kind; 4]
 }
 
 /// The settings of a deletion.
-pub(crate) fn delete_kinds() -> [Kind; 2]
+pub(crate) fn delete_kinds() -> [SettingKind; 2]
     ensures rows { kinds_of result ≡ spec.set_kind ++ spec.version_kind (codes "through") }
     ensures fit { kinds_fit (kinds_of result) ≡ true }
 {
@@ -195,7 +195,7 @@ pub(crate) fn delete_kinds() -> [Kind; 2]
 }
 
 /// The settings that name a version.
-pub(crate) fn version_kinds() -> [Kind; 2]
+pub(crate) fn version_kinds() -> [SettingKind; 2]
     ensures rows { kinds_of result ≡ spec.set_kind ++ spec.version_kind (codes "version") }
     ensures fit { kinds_fit (kinds_of result) ≡ true }
 {
@@ -203,7 +203,7 @@ pub(crate) fn version_kinds() -> [Kind; 2]
 }
 
 /// The settings of a batch.
-pub(crate) fn batch_kinds() -> [Kind; 3]
+pub(crate) fn batch_kinds() -> [SettingKind; 3]
     ensures rows { kinds_of result ≡ spec.queue_kinds ++ spec.workers_kind }
     ensures fit { kinds_fit (kinds_of result) ≡ true }
 {
@@ -211,7 +211,7 @@ pub(crate) fn batch_kinds() -> [Kind; 3]
 }
 
 /// The settings of a fill.
-pub(crate) fn fill_kinds() -> [Kind; 5]
+pub(crate) fn fill_kinds() -> [SettingKind; 5]
     ensures rows { kinds_of result ≡ (codes "seed", spec.Number 0 18446744073709551615) ∷ (codes "versions", spec.Number 1 64) ∷ spec.queue_kinds ++ spec.workers_kind }
     ensures fit { kinds_fit (kinds_of result) ≡ true }
 {
@@ -219,7 +219,7 @@ pub(crate) fn fill_kinds() -> [Kind; 5]
 }
 
 /// The settings of a scrub.
-pub(crate) fn scrub_kinds() -> [Kind; 1]
+pub(crate) fn scrub_kinds() -> [SettingKind; 1]
     ensures rows { kinds_of result ≡ spec.workers_kind }
     ensures fit { kinds_fit (kinds_of result) ≡ true }
 {
@@ -227,7 +227,7 @@ pub(crate) fn scrub_kinds() -> [Kind; 1]
 }
 
 /// The settings of a line that backs up.
-pub(crate) fn backup_line_kinds() -> [Kind; 11]
+pub(crate) fn backup_line_kinds() -> [SettingKind; 11]
     ensures rows { kinds_of result ≡ spec.set_kind ++ spec.job_kinds }
     ensures fit { kinds_fit (kinds_of result) ≡ true }
 {
@@ -237,7 +237,7 @@ pub(crate) fn backup_line_kinds() -> [Kind; 11]
 }
 
 /// The settings of a line that restores.
-pub(crate) fn restore_line_kinds() -> [Kind; 2]
+pub(crate) fn restore_line_kinds() -> [SettingKind; 2]
     ensures rows { kinds_of result ≡ spec.set_kind ++ spec.cache_kind }
     ensures fit { kinds_fit (kinds_of result) ≡ true }
 {
@@ -245,7 +245,7 @@ pub(crate) fn restore_line_kinds() -> [Kind; 2]
 }
 
 /// The settings of a line that deletes.
-pub(crate) fn delete_line_kinds() -> [Kind; 1]
+pub(crate) fn delete_line_kinds() -> [SettingKind; 1]
     ensures rows { kinds_of result ≡ spec.set_kind }
     ensures fit { kinds_fit (kinds_of result) ≡ true }
 {
@@ -263,7 +263,7 @@ pub(crate) fn is_in(range: Range, value: &[u8]) -> bool
 }
 
 /// Whether a name is one of the table's, and may have the value.
-pub(crate) fn may_be(kinds: &[Kind], name: &[u8], value: &[u8]) -> bool
+pub(crate) fn may_be(kinds: &[SettingKind], name: &[u8], value: &[u8]) -> bool
     ensures { result ≡ list_any (λ k. bytes_eq k.0 name.now && spec.is_allowed k.1 value.now) (kinds_of kinds.now) }
 {
     for kind in kinds {

@@ -5,7 +5,7 @@ ghost use Rattle.std.specs.Str.{bytes_eq};
 ghost use Rattle.vault_types.specs.Words as spec;
 ghost use Rattle.script_words.specs.Settings.{pairs, kinds_of, kinds_fit, NumbersFit};
 
-use crate::kinds::{Kind, may_be};
+use crate::kinds::{SettingKind, may_be};
 use crate::values::{is_value, number};
 
 /// A setting: a name and its value.
@@ -51,7 +51,7 @@ pub(crate) fn names_differ(settings: &[Setting]) -> bool
 }
 
 /// Whether each name comes once, is in the table, and has a value that it may have.
-pub(crate) fn are_allowed(settings: &[Setting], kinds: &[Kind]) -> bool
+pub(crate) fn are_allowed(settings: &[Setting], kinds: &[SettingKind]) -> bool
     requires { kinds_fit (kinds_of kinds.now) ≡ true }
     ensures allowed { result ≡ spec.are_allowed (kinds_of kinds.now) (pairs settings.now) }
     ensures fit { result ≡ true → NumbersFit (pairs settings.now) }
@@ -59,7 +59,7 @@ pub(crate) fn are_allowed(settings: &[Setting], kinds: &[Kind]) -> bool
     names_differ(settings) && each_is_allowed(settings, kinds)
 }
 
-fn each_is_allowed(settings: &[Setting], kinds: &[Kind]) -> bool
+fn each_is_allowed(settings: &[Setting], kinds: &[SettingKind]) -> bool
     ensures { result ≡ list_all (spec.allows (kinds_of kinds.now)) (pairs settings.now) }
 {
     for setting in settings {

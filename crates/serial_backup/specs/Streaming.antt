@@ -7,7 +7,7 @@ use Rattle.vault_types.specs.Names.{fp}
 use Rattle.vault_types.specs.Tables.{Container}
 use Rattle.vault_traits.specs.Told.{SourceTold, Gives}
 use Rattle.container_fill.specs.Filling.{IsFilledBy}
-use Rattle.stream_cutter.specs.Cutters.{IsCuttable}
+use Rattle.vault_types.specs.JobRanges.{IsCuttable}
 use Rattle.backup_pass.specs.declared.pass.Pass.{Pass}
 use Rattle.backup_pass.specs.declared.pass.Passed.{Passed}
 use Rattle.backup_pass.specs.Passing.{HasPassed, IsPassFault, index_in}

@@ -5,7 +5,8 @@ mod ending;
 mod reading;
 
 ghost use Rattle.std.specs.Prelude.{◌≡◌, ◌≤◌, None, []};
-ghost use Rattle.backup_pass.specs.Passing.{IsInRange, index_in};
+ghost use Rattle.vault_types.specs.JobRanges.{IsInRange};
+ghost use Rattle.backup_pass.specs.Passing.{index_in};
 ghost use Rattle.backup_jobs.specs.Backup.{BacksUp};
 ghost use Rattle.backup_jobs.specs.Going.{Began, IsOver};
 ghost use Rattle.serial_backup.specs.Streaming.{IsGoing};

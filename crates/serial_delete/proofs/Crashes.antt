@@ -11,7 +11,7 @@ use Rattle.vault_types.specs.Script.{Sources, after, after_line, is_store_fault,
 use Rattle.vault_traits.specs.Crash.{History, LeavesNowIfTold, LeavesOnlyIfTold}
 use Rattle.vault_traits.proofs.Moments.{ends, more, more_now}
 use Rattle.vault_types.specs.Shelf.{Stands}
-use Rattle.script_laws.specs.Steps.{BearsStep, IsNextOther, StandsWith}
+use Rattle.store_model.specs.Steps.{BearsStep, IsNextOther, StandsWith}
 use Rattle.script_laws.proofs.Following.{near_with}
 
 module _ (sources : Sources) (S : State) (other : Option Change) (line : Line) where

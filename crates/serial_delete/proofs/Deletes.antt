@@ -18,15 +18,15 @@ use Rattle.vault_types.specs.Refusals.{due_refusal, refuses_by_state, IsExact}
 use Rattle.vault_traits.specs.Counts.{Rose}
 use Rattle.vault_traits.specs.Crash.{LeavesNowIfTold, LeavesOnlyIfTold}
 use Rattle.deletion_laws.specs.Deleting.{IsDeleting}
-use Rattle.keeper_parts.specs.Recipes.{KeepsRecipes}
+use Rattle.vault_types.specs.RecipeForms.{KeepsRecipes}
 use Rattle.keeper_catalog.specs.Catalog.{Memo}
 use Rattle.keeper_catalog.specs.View.{View, Keeps, HasCore}
 use Rattle.keeper_core.specs.Calls.{IsHalf, IsStill, IsDeletionFault, IsShelfFault}
-use Rattle.script_laws.specs.Calls.{DeletesLine}
-use Rattle.script_laws.specs.Causes.{CausesRise, fits, counts_of_shelf}
-use Rattle.script_laws.specs.Complete.{IsWellAnswered}
-use Rattle.script_laws.specs.Steps.{StepsOn}
-use Rattle.script_laws.specs.Table.{MeansLine}
+use Rattle.store_model.specs.Calls.{DeletesLine}
+use Rattle.store_model.specs.Causes.{CausesRise, fits, counts_of_shelf}
+use Rattle.store_model.specs.Complete.{IsWellAnswered}
+use Rattle.store_model.specs.Steps.{StepsOn}
+use Rattle.store_model.specs.Table.{MeansLine}
 use Rattle.vault_traits.proofs.Moments.{ends}
 use Rattle.deletion_laws.proofs.Keeping.{delete_valid}
 use Rattle.script_laws.proofs.Staying.{below_set}

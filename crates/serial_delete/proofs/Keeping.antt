@@ -8,9 +8,9 @@ use Rattle.vault_types.specs.State.{State, IsValid}
 use Rattle.vault_types.specs.Shelf.{Blobs}
 use Rattle.vault_types.specs.Events.{Change, Pin, IsNear}
 use Rattle.vault_traits.specs.Crash.{LeavesNowIfTold}
-use Rattle.keeper_parts.specs.Parts.{HeldIfTold}
+use Rattle.state_laws.specs.Parts.{HeldIfTold}
 use Rattle.keeper_catalog.specs.View.{View, Keeps, opened_core}
-use Rattle.script_laws.specs.Strays.{IsStray, StraysOf}
+use Rattle.store_model.specs.Strays.{IsStray, StraysOf}
 use Rattle.serial_delete.specs.Keeping.{IsStateOf, IsStateWith, IsKnownStray}
 
 -- a keeper that was opened over told blobs keeps their state, and what it knows as strays are strays of them

@@ -9,8 +9,8 @@ use Rattle.vault_types.specs.State.{KeptVersion, dataset, empty_dataset, floor_o
 use Rattle.vault_types.specs.Blobs.{floor_bytes, recipe_bytes, recipe_bytes_2}
 use Rattle.vault_types.specs.Shelf.{Blobs, Stands, with_blob, blob_at, recipe_name, floor_name}
 use Rattle.vault_types.specs.Events.{Core, Change, IsChange, IsNear}
-use Rattle.keeper_parts.specs.Parts.{HeldIfTold, IsOf, mended_blobs}
-use Rattle.keeper_parts.proofs.Changing.{mended, near_alone}
+use Rattle.state_laws.specs.Parts.{HeldIfTold, IsOf, mended_blobs}
+use Rattle.state_laws.proofs.Changing.{mended, near_alone}
 use Rattle.keeper_catalog.specs.declared.SetInfo.{SetInfo}
 use Rattle.keeper_catalog.specs.Catalog.{set_info}
 use Rattle.keeper_catalog.specs.View.{View, Keeps}

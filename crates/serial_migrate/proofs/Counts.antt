@@ -6,8 +6,8 @@ use Rattle.vault_types.specs.Blobs.{recipe_bytes_1, recipe_bytes_2}
 use Rattle.vault_types.specs.Shelf.{Blobs, blob_at, recipe_name}
 use Rattle.vault_types.specs.Plans.{requests, IsLeast}
 use Rattle.vault_types.specs.Script.{row_ids}
-use Rattle.keeper_parts.specs.Recipes.{IsSecond}
-use Rattle.run_laws.specs.Migrating.{IsFirst, HaveFirst, versions_from}
+use Rattle.vault_types.specs.RecipeForms.{IsSecond}
+use Rattle.store_model.specs.Migrating.{IsFirst, HaveFirst, versions_from}
 
 abbrev blob_or : List ℕ → Option (List ℕ) → List ℕ
 blob_or other (Some x) = x

@@ -17,7 +17,7 @@ use Rattle.vault_types.specs.Names.{fp}
 use Rattle.vault_types.specs.State.{State, IsValid, KeptVersion, latest_of, is_kept, version_of, recipe_of}
 use Rattle.vault_types.specs.Blobs.{recipe_bytes_1, recipe_bytes_2}
 use Rattle.vault_types.specs.Bytes.{bytes_of, IsSound}
-use Rattle.vault_types.specs.Shelf.{Blobs, blob_at, recipe_name}
+use Rattle.vault_types.specs.Shelf.{Blobs, blob_at, recipe_name, Has}
 use Rattle.vault_types.specs.Events.{Core, Change, IsNear, with_pins, after_mend, after_refused}
 use Rattle.vault_types.specs.Plans.{requests, IsLeast}
 use Rattle.vault_types.specs.Script.{row_ids}
@@ -25,18 +25,18 @@ use Rattle.vault_traits.specs.Counts.{counted_up, Rose}
 use Rattle.vault_traits.specs.Crash.{History, LeavesNowIfTold, LeavesOnlyIfTold}
 use Rattle.vault_traits.specs.Told.{SinkTold}
 use Rattle.vault_traits.proofs.Moments.{then, ends, more_now, stays}
-use Rattle.blob_parts.specs.Causes.{Has, IsCause}
-use Rattle.recipe_store.specs.Damages.{IsRecipeDamage}
+use Rattle.vault_traits.specs.Causes.{IsCause}
+use Rattle.vault_types.specs.BlobDamage.{IsRecipeDamage}
 use Rattle.keeper_catalog.specs.Catalog.{Memo}
 use Rattle.keeper_catalog.specs.View.{View, Keeps, HasCore}
 use Rattle.commit_laws.proofs.Listing.{some_same, none_some}
-use Rattle.deletion_laws.proofs.Members.{clash}
+use Rattle.state_laws.proofs.Members.{clash}
 use Rattle.keeper_core.specs.Calls.{IsWholeOf, IsPinDamage}
 use Rattle.keeper_core.specs.Replacing.{IsRefused}
 use Rattle.keeper_core.proofs.Replacings.{version_there, near_wider}
-use Rattle.script_laws.specs.Complete.{is_counted}
-use Rattle.keeper_parts.specs.Recipes.{IsSecond}
-use Rattle.run_laws.specs.Migrating.{IsFirst, HaveFirst, ShowsDamage}
+use Rattle.store_model.specs.Complete.{is_counted}
+use Rattle.vault_types.specs.RecipeForms.{IsSecond}
+use Rattle.store_model.specs.Migrating.{IsFirst, HaveFirst, ShowsDamage}
 use Rattle.vault_types.specs.declared.Pending.TheVariants as pending
 use Rattle.serial_delete.specs.Keeping.{IsStateOf}
 use Rattle.serial_delete.proofs.Keeping.{changed_of, images_of}

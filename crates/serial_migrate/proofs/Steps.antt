@@ -11,15 +11,15 @@ use Rattle.vault_types.specs.Events.{Core, Change, IsNear}
 use Rattle.vault_traits.specs.Counts.{counted_up}
 use Rattle.vault_traits.specs.Crash.{LeavesNowIfTold, LeavesOnlyIfTold}
 use Rattle.vault_traits.proofs.Moments.{then, more, stays}
-use Rattle.keeper_parts.proofs.Changing.{recipe_same, version_low, version_high, latest_low}
-use Rattle.keeper_parts.proofs.Growing.{floor_pos}
+use Rattle.state_laws.proofs.Changing.{recipe_same, version_low, version_high, latest_low}
+use Rattle.state_laws.proofs.Growing.{floor_pos}
 use Rattle.keeper_catalog.specs.View.{View, Keeps}
 use Rattle.keeper_core.proofs.Replacings.{version_there}
 use Rattle.script_laws.proofs.Rising.{counted_up_twice}
-use Rattle.keeper_parts.specs.Recipes.{IsSecond}
-use Rattle.run_laws.specs.Migrating.{HaveFirst, kept_versions, versions_from, versions_below}
+use Rattle.vault_types.specs.RecipeForms.{IsSecond}
+use Rattle.store_model.specs.Migrating.{HaveFirst, kept_versions, versions_from, versions_below}
 use Rattle.serial_delete.specs.Keeping.{IsStateOf}
-use Rattle.serial_migrate.specs.Going.{LeavesOne, Went, Halted, IsBefore, Gone, AllDone, Ended}
+use Rattle.serial_migrate.specs.Going.{LeavesOne, Went, Halted, IsBefore, Gone, AllDone, HasEndedBy}
 use Rattle.serial_migrate.proofs.Counts.{have_append, have_split, have_same, have_head, have_moved, from_goes_on}
 
 -- ---- the state that is kept
@@ -161,7 +161,7 @@ module _ (u v w : View) (S : State) (other : Option Change) (set number : ℕ) (
       second_at s n j is before (At one two) = own_second s n j one two is
       second_at s n j is before (Behind not) = absurd (not before)
 
-  pub stopped_here : (f : Fault) (rest : List (ℕ × ℕ)) → kept_versions S ≡ versions ++ (set, number) ∷ rest → Halted v w S gone.next set number f → Ended u w S other f
+  pub stopped_here : (f : Fault) (rest : List (ℕ × ℕ)) → kept_versions S ≡ versions ++ (set, number) ∷ rest → Halted v w S gone.next set number f → HasEndedBy u w S other f
   stopped_here f rest are halted =
       let stopped = halted.stopped in
       record {
@@ -338,7 +338,7 @@ kept_goes_on S valid set number below low high =
         ∙ sym (append_assoc a b (x ∷ (c ++ d)))
 
 pub stops_in_set : (u v w : View) (S : State) (other : Option Change) (set number recipes : ℕ) (f : Fault) (here : InSet u v S other set number recipes) → set < length S.datasets → (k : KeptVersion) → version_of S set number ≡ Some k
-    → Halted v w S here.gone.next set number f → Ended u w S other f
+    → Halted v w S here.gone.next set number f → HasEndedBy u w S other f
 stops_in_set u v w S other set number recipes f here below k kept halted =
     let high = version_high S set number k kept in
     let goes = kept_goes_on S (valid_of v S here.gone.next here.gone.keeps) set number below here.low high in
@@ -377,7 +377,7 @@ module _ (u v : View) (set : ℕ) where
         let k = kept_version v S g.gone.next set number g.gone.keeps kept in
         next_version u v w S other set number recipes put g k.0 k.1 (went S g.gone.next g.gone.keeps)
 
-    pub stop_here : (f : Fault) → set < 256 → InEach v (λ S other. Halted v w S other set number f) → InEach u (λ S other. Ended u w S other f)
+    pub stop_here : (f : Fault) → set < 256 → InEach v (λ S other. Halted v w S other set number f) → InEach u (λ S other. HasEndedBy u w S other f)
     stop_here f below halted S other here =
         let g = each S other here in
         let is = g.gone.keeps in

@@ -12,10 +12,10 @@ use Rattle.vault_types.specs.Events.{Change, IsNear}
 use Rattle.vault_types.specs.Script.{is_refused}
 use Rattle.vault_traits.specs.Crash.{LeavesNowIfTold}
 use Rattle.keeper_catalog.specs.View.{View}
-use Rattle.script_laws.specs.Causes.{CausesRise, counts_of_shelf}
-use Rattle.run_laws.specs.Migrating.{GetsOf, MigratesIn, BearsMigration, MigratesStore, HaveFirst, fits_migrate, kept_versions}
+use Rattle.store_model.specs.Causes.{CausesRise, counts_of_shelf}
+use Rattle.store_model.specs.Migrating.{GetsOf, MigratesIn, BearsMigration, MigratesStore, HaveFirst, fits_migrate, kept_versions}
 use Rattle.serial_delete.specs.Keeping.{IsStateOf, IsKnownStray}
-use Rattle.serial_migrate.specs.Going.{IsLaterOf, IsMigrateFault, AllDone, Ended}
+use Rattle.serial_migrate.specs.Going.{IsLaterOf, IsMigrateFault, AllDone, HasEndedBy}
 
 module _ (u v : View) where
   -- what a migration comes to in a state
@@ -50,7 +50,7 @@ module _ (u v : View) where
   few_of : (S : State) (f : Fault) (n : ℕ) → ((recipes least : ℕ) → HaveFirst u.told.blobs S (kept_versions S) recipes least → n ≤ least) → GetsOf u.told.blobs S (Refused f) n
   few_of S f n few = few
 
-  ended_comes : (f : Fault) (S : State) (other : Option Change) → Ended u v S other f → Comes (Refused f) S other
+  ended_comes : (f : Fault) (S : State) (other : Option Change) → HasEndedBy u v S other f → Comes (Refused f) S other
   ended_comes f S other ended = (
     ended.next,
     ended.keeps,
@@ -90,7 +90,7 @@ module _ (u v : View) where
     steps = λ S other here. done_comes recipes S other (each S other here);
   }
 
-  pub all_ended : (f : Fault) → IsLaterOf u v → IsMigrateFault u v f → ((S : State) (other : Option Change) → IsStateOf u S other → Ended u v S other f)
+  pub all_ended : (f : Fault) → IsLaterOf u v → IsMigrateFault u v f → ((S : State) (other : Option Change) → IsStateOf u S other → HasEndedBy u v S other f)
       → MigratesStore (IsStateOf u) (IsStateOf v) (IsKnownStray u) (IsKnownStray v) u.told v.told (Err f)
   all_ended f later why each = record {
     done = tt;

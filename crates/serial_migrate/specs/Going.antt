@@ -14,9 +14,9 @@ use Rattle.vault_types.specs.Script.{row_ids}
 use Rattle.vault_traits.specs.Counts.{counted_up, Rose}
 use Rattle.vault_traits.specs.Crash.{LeavesNowIfTold, LeavesOnlyIfTold}
 use Rattle.keeper_catalog.specs.View.{View}
-use Rattle.script_laws.specs.Complete.{is_counted}
-use Rattle.keeper_parts.specs.Recipes.{IsSecond}
-use Rattle.run_laws.specs.Migrating.{HaveFirst, ShowsDamage, kept_versions}
+use Rattle.store_model.specs.Complete.{is_counted}
+use Rattle.vault_types.specs.RecipeForms.{IsSecond}
+use Rattle.store_model.specs.Migrating.{HaveFirst, ShowsDamage, kept_versions}
 use Rattle.serial_delete.specs.Keeping.{IsStateOf, IsKnownStray}
 
 -- the job and the pins stay, and the count of faults has not fallen
@@ -115,7 +115,7 @@ abbrev pub AllDone : View → View → State → Option Change → ℕ → Type 
 AllDone u v S other recipes = Gone u v S other (length S.datasets) 0 (kept_versions S) recipes
 
 -- a refusal before that
-pub record Ended (u v : View) (S : State) (other : Option Change) (f : Fault) : Type 0 where
+pub record HasEndedBy (u v : View) (S : State) (other : Option Change) (f : Fault) : Type 0 where
   pub next : Option Change
   pub keeps : IsStateOf v S next
   pub next_other : (next ≡ None) ⊎ (next ≡ other)

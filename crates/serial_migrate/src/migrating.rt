@@ -2,9 +2,9 @@
 ghost use Rattle.std.specs.Prelude.{◌≡◌, None, Option, IfErr, IfOk};
 ghost use Rattle.vault_types.specs.State.{State};
 ghost use Rattle.vault_types.specs.Events.{Change};
-ghost use Rattle.run_laws.specs.Migrating.{MigratesStore};
+ghost use Rattle.store_model.specs.Migrating.{MigratesStore};
 ghost use Rattle.serial_delete.specs.Keeping.{IsStateOf, IsKnownStray};
-ghost use Rattle.serial_migrate.specs.Going.{IsLaterOf, IsMigrateFault, AllDone, Ended};
+ghost use Rattle.serial_migrate.specs.Going.{IsLaterOf, IsMigrateFault, AllDone, HasEndedBy};
 
 use crate::one::migrate_one;
 use keeper_core::Keeper;
@@ -18,7 +18,7 @@ fn migrate_all<S: Shelf>(alloc: Global, keeper: &mut Keeper<S>) -> Result<u64, F
     ensures later { IsLaterOf keeper.old keeper.new }
     ensures ok { IfOk result (λ recipes. (T : State) (other : Option Change) → IsStateOf keeper.old T other → AllDone keeper.old keeper.new T other recipes) }
     ensures cause { IfErr result (IsMigrateFault keeper.old keeper.new) }
-    ensures err { IfErr result (λ f. (T : State) (other : Option Change) → IsStateOf keeper.old T other → Ended keeper.old keeper.new T other f) }
+    ensures err { IfErr result (λ f. (T : State) (other : Option Change) → IsStateOf keeper.old T other → HasEndedBy keeper.old keeper.new T other f) }
 {
     let mut recipes = 0u64;
     let mut number = 0u16;

@@ -18,7 +18,7 @@ use Rattle.vault_types.specs.State.{container_in, length_of}
 use Rattle.vault_types.specs.Bytes.{front_of, chunk_in, chunk_of, chunk_at, row_bytes, offset_of, spot_of, spot_bytes, HasRow}
 use Rattle.vault_types.proofs.FillLemmas.{bytes_eq-same}
 use Rattle.commit_laws.proofs.Listing.{all_at, all_unmap, found_is}
-use Rattle.deletion_laws.proofs.Members.{clash, first_or_rest}
+use Rattle.state_laws.proofs.Members.{clash, first_or_rest}
 use Rattle.restore_assembler.specs.Copying.{version_bytes}
 
 -- the chunks of a payload that are there in whole

@@ -15,30 +15,26 @@ use Rattle.vault_types.specs.declared.Why.{Why}
 use Rattle.vault_types.specs.declared.Why.TheVariants as why
 use Rattle.vault_types.specs.Blobs.{SpellsRecipe, recipe_bytes}
 use Rattle.vault_types.specs.Bytes.{bytes_of, HasRow, HasPayload, IsSound}
-use Rattle.vault_types.specs.Events.{Core}
+use Rattle.vault_types.specs.Events.{Core, containers_of}
 use Rattle.vault_types.specs.Lists.{has, IsAscending}
 use Rattle.vault_types.specs.Names.{fp}
 use Rattle.vault_types.specs.Refusals.{is_damage_of}
 use Rattle.vault_types.specs.Script.{row_ids}
-use Rattle.vault_types.specs.Shelf.{Blobs, recipe_name, payload_name, IsRecipeBlob}
-use Rattle.vault_types.specs.State.{State, KeptVersion, version_of, container_in, all_rows}
+use Rattle.vault_types.specs.Shelf.{Blobs, recipe_name, payload_name, IsRecipeBlob, Has}
+use Rattle.vault_types.specs.State.{State, KeptVersion, version_of, container_in, all_rows, recipe_of}
 use Rattle.vault_types.specs.Tables.{Container, id_of, payload_len, table_row, IsWhole}
 use Rattle.vault_types.proofs.SetLemmas.{IsAscending-set_of}
-use Rattle.blob_parts.specs.Causes.{Has}
-use Rattle.container_store.specs.Damages.{IsPayloadWhy}
-use Rattle.recipe_store.specs.Damages.{IsRecipeWhy}
-use Rattle.keeper_parts.specs.Parts.{HeldIfTold}
-use Rattle.keeper_parts.proofs.Growing.{rows_of}
+use Rattle.vault_types.specs.BlobDamage.{IsPayloadWhy, IsRecipeWhy}
+use Rattle.state_laws.specs.Parts.{HeldIfTold}
+use Rattle.state_laws.proofs.Growing.{rows_of}
 use Rattle.keeper_catalog.specs.View.{View, Keeps}
 use Rattle.commit_laws.proofs.Listing.{itself, found_where, found_is, all_at, none_some, some_same}
 use Rattle.commit_laws.proofs.Loading.{held_recipe}
 use Rattle.commit_laws.proofs.Pinned.{held_has}
 use Rattle.commit_laws.proofs.Unique.{plain_of, kept_rules, kept_number, with_whole, without_whole}
-use Rattle.deletion_laws.proofs.Members.{filter_passed, filter_within}
+use Rattle.state_laws.proofs.Members.{filter_passed, filter_within}
 use Rattle.keeper_core.specs.Calls.{IsPinDamage}
-use Rattle.script_laws.specs.Table as table
-use Rattle.vault_types.specs.State.{recipe_of}
-use Rattle.vault_types.specs.Events.{containers_of}
+use Rattle.store_model.specs.Table as table
 use Rattle.serial_restore.specs.Restoring.{IsBadPayloadOf, IsWrongSumOf}
 
 -- ---- a sound state has no damage

@@ -17,8 +17,8 @@ use Rattle.vault_types.specs.State.{State, KeptVersion, version_of}
 use Rattle.vault_types.specs.Tables.{Container}
 use Rattle.vault_traits.specs.Counts.{Rose}
 use Rattle.vault_traits.specs.Told.{SinkTold}
-use Rattle.blob_parts.specs.Causes.{IsCause}
-use Rattle.container_store.specs.Damages.{IsPayloadDamage}
+use Rattle.vault_traits.specs.Causes.{IsCause}
+use Rattle.vault_types.specs.BlobDamage.{IsPayloadDamage}
 use Rattle.keeper_catalog.specs.View.{View}
 use Rattle.commit_laws.proofs.Listing.{none_some}
 use Rattle.keeper_core.specs.Calls.{Lists, IsPinDamage}

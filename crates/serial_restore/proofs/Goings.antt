@@ -24,12 +24,12 @@ use Rattle.vault_traits.specs.Crash.{LeavesNowIfTold, LeavesOnlyIfTold}
 use Rattle.vault_traits.specs.Told.{SinkTold}
 use Rattle.restore_pins.specs.Pins.{numbers, without}
 use Rattle.deletion_laws.specs.Releasing.{IsReleased}
-use Rattle.blob_parts.specs.Causes.{IsCause}
+use Rattle.vault_traits.specs.Causes.{IsCause}
 use Rattle.keeper_catalog.specs.View.{View, Keeps, HasCore}
 use Rattle.commit_laws.proofs.Listing.{some_same}
 use Rattle.keeper_core.specs.Calls.{HasListed, IsPinned, IsPinDamage, IsWholeOf}
 use Rattle.restore_assembler.proofs.Written.{takes_nothing}
-use Rattle.script_laws.specs.Calls.{IsShortAt}
+use Rattle.store_model.specs.Calls.{IsShortAt}
 use Rattle.serial_restore.specs.Going.{Stays, HasPinned, IsCopied, IsStopped, IsAtMostLeast}
 use Rattle.serial_restore.specs.Restoring.{whole_of, IsRestoreFault, IsLeft, IsCut, HasGone}
 use Rattle.serial_restore.proofs.Restores.{has_last, listed_gone, stayed, moment, stayed_still, moment_still, leaves_same}

@@ -32,16 +32,16 @@ use Rattle.vault_traits.proofs.Moments.{ends, more}
 use Rattle.restore_assembler.proofs.Written.{takes_nothing}
 use Rattle.keeper_catalog.specs.View.{View, Keeps, HasCore}
 use Rattle.commit_laws.proofs.Listing.{itself, same_number}
-use Rattle.container_store.specs.Damages.{IsPayloadDamage}
-use Rattle.deletion_laws.proofs.Members.{clash, or_left}
+use Rattle.vault_types.specs.BlobDamage.{IsPayloadDamage}
+use Rattle.state_laws.proofs.Members.{clash, or_left}
 use Rattle.keeper_core.specs.Calls.{IsPinDamage}
 use Rattle.keeper_core.proofs.Replacings.{version_there}
-use Rattle.script_laws.specs.Calls.{RestoresLine, HasWritten, IsShortAt, writes_all}
-use Rattle.script_laws.specs.Causes.{CausesRise, fits, may_be_wrong, counts_of_sink}
-use Rattle.script_laws.specs.Complete.{IsWell, IsWellAnswered}
-use Rattle.script_laws.specs.Leaves.{Gets}
-use Rattle.script_laws.specs.Steps.{StepsOn, StraysStep, BearsStep, StandsWith, answer_of}
-use Rattle.script_laws.specs.Table.{MeansLine, ShowsDamage}
+use Rattle.store_model.specs.Calls.{RestoresLine, HasWritten, IsShortAt, writes_all}
+use Rattle.store_model.specs.Causes.{CausesRise, fits, may_be_wrong, counts_of_sink}
+use Rattle.store_model.specs.Complete.{IsWell, IsWellAnswered}
+use Rattle.store_model.specs.Leaves.{Gets}
+use Rattle.store_model.specs.Steps.{StepsOn, StraysStep, BearsStep, StandsWith, answer_of}
+use Rattle.store_model.specs.Table.{MeansLine, ShowsDamage}
 use Rattle.script_laws.proofs.Following.{near_with}
 use Rattle.script_laws.proofs.Forms.{still_forms}
 use Rattle.script_laws.proofs.LineLemmas.{unmoved, not_kept_means, not_kept_is}

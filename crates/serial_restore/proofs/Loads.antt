@@ -20,13 +20,13 @@ use Rattle.vault_types.specs.Tables.{Container}
 use Rattle.vault_types.specs.Events.{Core, Pin}
 use Rattle.vault_traits.specs.Counts.{counted, counted_up, Rose}
 use Rattle.vault_traits.specs.Told.{SinkTold, Takes}
-use Rattle.blob_parts.specs.Causes.{HasCauses, IsCause}
-use Rattle.container_store.specs.Damages.{IsPayloadOf, IsPayloadDamage}
+use Rattle.vault_traits.specs.Causes.{HasCauses, IsCause}
+use Rattle.vault_types.specs.BlobDamage.{IsPayloadOf, IsPayloadDamage}
 use Rattle.keeper_catalog.specs.View.{View, Keeps}
 use Rattle.keeper_core.specs.Calls.{Lists, HasListed}
-use Rattle.script_laws.specs.Calls.{IsShortAt}
+use Rattle.store_model.specs.Calls.{IsShortAt}
 use Rattle.commit_laws.proofs.Listing.{all_append, all_right, all_weaker, all_of, all_at, contains_of}
-use Rattle.deletion_laws.proofs.Members.{of_map, in_map}
+use Rattle.state_laws.proofs.Members.{of_map, in_map}
 use Rattle.restore_assembler.specs.Copying.{Copying, wanted, IsCovered, IsWanted, HasCopied, IsTakenAt, version_bytes}
 use Rattle.restore_assembler.specs.Copying as copying
 use Rattle.restore_assembler.specs.Payloads.{Covers, Fits}

@@ -12,7 +12,7 @@ use Rattle.vault_types.specs.Lists.{has}
 use Rattle.vault_types.specs.Plans.{requests, serves, loads, farthest, load_behind, rule_steps, rule_plan, IsLeast}
 use Rattle.belady_cache.proofs.Steps.{loads_append, loads_cons, serves_load, serves_evict, serves_next}
 use Rattle.commit_laws.proofs.Listing.{all_append, all_of, has_of, contains_of}
-use Rattle.deletion_laws.proofs.Members.{here, later, first_or_rest, filter_within}
+use Rattle.state_laws.proofs.Members.{here, later, first_or_rest, filter_within}
 use Rattle.restore_assembler.specs.Copying.{Copying, next_load, wanted}
 use Rattle.serial_restore.specs.Going.{IsLoadOf, IsAtMostLeast}
 

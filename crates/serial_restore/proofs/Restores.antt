@@ -13,9 +13,9 @@ use Rattle.restore_pins.specs.Pins.{Listed, numbers, without}
 use Rattle.restore_pins.proofs.Callers.{numbers-same}
 use Rattle.deletion_laws.specs.Deleting.{pinned_ids}
 use Rattle.deletion_laws.specs.Releasing.{released_ids, IsReleased}
-use Rattle.deletion_laws.proofs.Members.{clash, or_right, of_map, in_map, filter_within}
+use Rattle.state_laws.proofs.Members.{clash, or_right, of_map, in_map, filter_within}
 use Rattle.commit_laws.proofs.Listing.{itself, same_number}
-use Rattle.keeper_parts.proofs.Changing.{recipe_no_table, recipe_no_payload}
+use Rattle.state_laws.proofs.Changing.{recipe_no_table, recipe_no_payload}
 use Rattle.keeper_catalog.specs.View.{View, Keeps}
 use Rattle.serial_restore.specs.Going.{Stays}
 use Rattle.serial_restore.specs.Restoring.{HasStayed}

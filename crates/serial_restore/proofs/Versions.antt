@@ -16,24 +16,23 @@ use Rattle.vault_types.specs.Events.{Core, Pin, pin_of, after_pin, containers_of
 use Rattle.vault_types.specs.Lists.{has, IsAscending}
 use Rattle.vault_types.specs.Names.{fp}
 use Rattle.vault_types.specs.Plans.{requests, IsLeast}
-use Rattle.vault_types.specs.Shelf.{Blobs, recipe_name}
+use Rattle.vault_types.specs.Shelf.{Blobs, recipe_name, Has}
 use Rattle.vault_types.specs.State.{KeptVersion, version_of, container_in, all_rows, recipe_of}
 use Rattle.vault_types.specs.Tables.{Container, id_of, payload_len}
 use Rattle.vault_types.proofs.SetLemmas.{IsAscending-set_of}
 use Rattle.vault_traits.specs.Counts.{counted_up}
 use Rattle.vault_traits.specs.Told.{SinkTold, Takes}
-use Rattle.blob_parts.specs.Causes.{Has}
 use Rattle.restore_pins.specs.Pins.{numbers}
 use Rattle.restore_pins.proofs.Callers.{numbers-same}
-use Rattle.keeper_parts.specs.Parts.{HeldIfTold}
+use Rattle.state_laws.specs.Parts.{HeldIfTold}
 use Rattle.keeper_catalog.specs.View.{View, Keeps}
 use Rattle.commit_laws.proofs.Listing.{itself, found_where, no_member, none_some}
 use Rattle.commit_laws.proofs.Loading.{held_says}
 use Rattle.commit_laws.proofs.Unique.{plain_of, kept_rules, kept_number, without_whole}
-use Rattle.deletion_laws.proofs.Members.{filter_contains, filter_within, first_or_rest}
+use Rattle.state_laws.proofs.Members.{filter_contains, filter_within, first_or_rest}
 use Rattle.keeper_core.specs.Calls.{Lists, HasListed, IsPinned, IsWholeOf}
 use Rattle.restore_assembler.specs.Copying.{version_bytes}
-use Rattle.script_laws.specs.Calls.{IsShortAt}
+use Rattle.store_model.specs.Calls.{IsShortAt}
 use Rattle.serial_restore.specs.Going.{HasPinned, ArePayloads, AreGiven, IsFull, HasSum, IsSummed, IsFoundOf, TakesFront, IsCopied, IsStopped, IsAtMostLeast}
 use Rattle.serial_restore.specs.Restoring.{whole_of, IsRestored, IsCut}
 use Rattle.serial_restore.proofs.Chunks.{fitting, payload_at, fitting_whole, spots_bytes, rows_len, HasWhole}

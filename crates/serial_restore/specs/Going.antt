@@ -19,10 +19,10 @@ use Rattle.vault_types.specs.Tables.{Container, payload_len}
 use Rattle.vault_types.specs.Events.{Core, Pin}
 use Rattle.vault_traits.specs.Counts.{counted, counted_up, Rose}
 use Rattle.vault_traits.specs.Told.{SinkTold, Takes}
-use Rattle.container_store.specs.Damages.{IsPayloadDamage}
+use Rattle.vault_types.specs.BlobDamage.{IsPayloadDamage}
 use Rattle.keeper_catalog.specs.View.{View, Keeps}
 use Rattle.keeper_core.specs.Calls.{Lists, HasListed}
-use Rattle.script_laws.specs.Calls.{IsShortAt}
+use Rattle.store_model.specs.Calls.{IsShortAt}
 use Rattle.restore_assembler.specs.Copying.{Copying, wanted, HasCopied, version_bytes}
 
 -- loads leave of a keeper all but the counts of faults and of gets

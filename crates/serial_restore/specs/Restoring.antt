@@ -21,10 +21,10 @@ use Rattle.vault_types.specs.Tables.{Container}
 use Rattle.vault_traits.specs.Counts.{counted_up, Rose}
 use Rattle.vault_traits.specs.Crash.{LeavesNowIfTold, LeavesOnlyIfTold}
 use Rattle.vault_traits.specs.Told.{SinkTold, Takes}
-use Rattle.container_store.specs.Damages.{IsPayloadDamage}
+use Rattle.vault_types.specs.BlobDamage.{IsPayloadDamage}
 use Rattle.keeper_catalog.specs.View.{View, Keeps}
 use Rattle.keeper_core.specs.Calls.{IsPinDamage}
-use Rattle.script_laws.specs.Calls.{IsShortAt}
+use Rattle.store_model.specs.Calls.{IsShortAt}
 use Rattle.serial_restore.specs.Going.{TakesFront, IsAtMostLeast}
 
 -- the sum that a version should have, by the number of its recipe

@@ -8,8 +8,8 @@ use Rattle.vault_types.specs.Lists.{has}
 use Rattle.vault_types.specs.Marks.{Mark, marks_of, marked_ids, marks_above, freed_ids}
 use Rattle.marker_gc.proofs.Lists.{has-filter}
 use Rattle.marker_gc.proofs.Marking.{all-append, has-marked_ids}
-use Rattle.set_markers.specs.Steps.{Step, marks_after, floor_after, stands_above, stands_since, FloorsRise}
-use Rattle.set_markers.specs.Steps.Step.{Committed, Taken}
+use Rattle.set_markers.specs.Steps.{MarkerStep, marks_after, floor_after, stands_above, stands_since, FloorsRise}
+use Rattle.set_markers.specs.Steps.MarkerStep.{Committed, Taken}
 
 -- whether a mark at or above the floor of its set names the id
 abbrev names_above : (ℕ → ℕ) → ℕ → Mark → Bool
@@ -55,7 +55,7 @@ not_taken floors c t f (m ∷ marks) h = step (m.set == t) refl (nat_lt m.versio
     step false e b l i = ap (λ d. names_above floors c m || d) i
 
 -- a floor rises
-rises : (t f : ℕ) (steps : List Step) → floor_after steps t ≤ f → (s : ℕ) → floor_after steps s ≤ floor_after (Taken t f ∷ steps) s
+rises : (t f : ℕ) (steps : List MarkerStep) → floor_after steps t ≤ f → (s : ℕ) → floor_after steps s ≤ floor_after (Taken t f ∷ steps) s
 rises t f steps h s = step (nat_eq t s) refl
   where
     step : (b : Bool) → nat_eq t s ≡ b → floor_after steps s ≤ cond b f (floor_after steps s)
@@ -65,7 +65,7 @@ rises t f steps h s = step (nat_eq t s) refl
     step false e = omega arith
 
 -- the marks that the steps leave name at or above floors what the commits name there, where those are no lower
-above-marks : (floors : ℕ → ℕ) (c : ℕ) (steps : List Step) → FloorsRise steps → ((s : ℕ) → floor_after steps s ≤ floors s) → list_any (names_above floors c) (marks_after steps) ≡ stands_above floors steps c
+above-marks : (floors : ℕ → ℕ) (c : ℕ) (steps : List MarkerStep) → FloorsRise steps → ((s : ℕ) → floor_after steps s ≤ floors s) → list_any (names_above floors c) (marks_after steps) ≡ stands_above floors steps c
 above-marks floors c [] h g = refl
 above-marks floors c (Committed s v ids ∷ steps) h g =
     list_any-append (names_above floors c) (marks_after steps) (marks_of s v ids)
@@ -88,7 +88,7 @@ above-marks floors c (Taken t f ∷ steps) h g =
 abbrev IsKept : (ℕ → ℕ) → Mark → Type 0
 IsKept floors m = floors m.set ≤ m.version
 
-all_kept : (steps : List Step) → FloorsRise steps → AllByRecursion (IsKept (floor_after steps)) (marks_after steps)
+all_kept : (steps : List MarkerStep) → FloorsRise steps → AllByRecursion (IsKept (floor_after steps)) (marks_after steps)
 all_kept [] h = tt
 all_kept (Committed s v ids ∷ steps) h = all-append (IsKept (floor_after steps)) (marks_after steps) (marks_of s v ids) (all_kept steps h.1) (new ids)
   where
@@ -115,12 +115,12 @@ kept-named floors c (m ∷ marks) h =
     let at : nat_le (floors m.set) m.version ≡ true = grind (arith, nat_tests, h.0) in
     ap (λ b. (b && nat_eq c m.id) || list_any (names_above floors c) marks) at ∙ ap (λ b. nat_eq c m.id || b) (kept-named floors c marks h.1)
 
-named-above : (c : ℕ) (steps : List Step) → FloorsRise steps → has c (marked_ids (marks_after steps)) ≡ stands_above (floor_after steps) steps c
+named-above : (c : ℕ) (steps : List MarkerStep) → FloorsRise steps → has c (marked_ids (marks_after steps)) ≡ stands_above (floor_after steps) steps c
 named-above c steps h =
     has-marked_ids c (marks_after steps) ∙ sym (kept-named (floor_after steps) c (marks_after steps) (all_kept steps h)) ∙ above-marks (floor_after steps) c steps h (λ s. omega arith)
 
 -- where floors rise, less stands at or above them
-less-above : (low high : ℕ → ℕ) (c : ℕ) (steps : List Step) → ((s : ℕ) → low s ≤ high s) → stands_above high steps c ≡ true → stands_above low steps c ≡ true
+less-above : (low high : ℕ → ℕ) (c : ℕ) (steps : List MarkerStep) → ((s : ℕ) → low s ≤ high s) → stands_above high steps c ≡ true → stands_above low steps c ≡ true
 less-above low high c [] g e = e
 less-above low high c (Committed s v ids ∷ steps) g e = step (nat_le (high s) v) refl (nat_le (low s) v) refl (has c ids) e (λ f. less-above low high c steps g f)
   where
@@ -136,7 +136,7 @@ less-above low high c (Committed s v ids ∷ steps) g e = step (nat_le (high s) 
     step false t b u d f h = ap (λ x. (b && d) || x) (h f) ∙ always (b && d)
 less-above low high c (Taken t f ∷ steps) g e = less-above low high c steps g e
 
-since-above : (c : ℕ) (steps : List Step) → FloorsRise steps → stands_since steps c ≡ stands_above (floor_after steps) steps c
+since-above : (c : ℕ) (steps : List MarkerStep) → FloorsRise steps → stands_since steps c ≡ stands_above (floor_after steps) steps c
 since-above c [] h = refl
 since-above c (Committed s v ids ∷ steps) h =
     let at : nat_le (floor_after steps s) v ≡ true = grind (arith, nat_tests, h.0) in
@@ -151,10 +151,10 @@ since-above c (Taken t f ∷ steps) h =
     step false true i = let clash : false ≡ true = i refl in cc
     step false false i = refl
 
-pub named-since : (c : ℕ) (steps : List Step) → FloorsRise steps → has c (marked_ids (marks_after steps)) ≡ stands_since steps c
+pub named-since : (c : ℕ) (steps : List MarkerStep) → FloorsRise steps → has c (marked_ids (marks_after steps)) ≡ stands_since steps c
 named-since c steps h = named-above c steps h ∙ sym (since-above c steps h)
 
-pub taken-since : (s floor c : ℕ) (steps : List Step) → FloorsRise (Taken s floor ∷ steps)
+pub taken-since : (s floor c : ℕ) (steps : List MarkerStep) → FloorsRise (Taken s floor ∷ steps)
     → has c (freed_ids s floor (marks_after steps)) ≡ (stands_since steps c && not (stands_above (floor_after (Taken s floor ∷ steps)) steps c))
 taken-since s floor c steps h =
     has-filter c (λ k. not (has k (marked_ids (marks_above s floor (marks_after steps))))) (marked_ids (marks_after steps))

@@ -12,8 +12,8 @@ ghost use Rattle.std.specs.Prelude.{◌≡◌, ◌≤◌, ◌+◌, ◌++◌, ◌
 ghost use Rattle.vault_types.specs.Lists.{has};
 ghost use Rattle.vault_types.specs.Marks.{Mark, marks_of, marked_ids, marks_above, freed_ids};
 ghost use Rattle.set_markers.specs.SetMarkers.{AreMarkersOfSets};
-ghost use Rattle.set_markers.specs.Steps.{Step, marks_after, floor_after, stands_above, stands_since, FloorsRise};
-ghost use Rattle.set_markers.specs.Steps.Step.{Taken};
+ghost use Rattle.set_markers.specs.Steps.{MarkerStep, marks_after, floor_after, stands_above, stands_since, FloorsRise};
+ghost use Rattle.set_markers.specs.Steps.MarkerStep.{Taken};
 
 mod maps;
 
@@ -112,6 +112,6 @@ impl SetMarkers {
 /// is named stands in some commit since it was last taken, and what a floor takes of it stands in no commit whose version
 /// is at or above the last floor of its set.
 pub fn taken_ids_are_in_no_kept_version()
-    ensures named { (c : ℕ) (steps : List Step) → FloorsRise steps → has c (marked_ids (marks_after steps)) ≡ stands_since steps c }
-    ensures taken { (s floor c : ℕ) (steps : List Step) → FloorsRise (Taken s floor ∷ steps) → has c (freed_ids s floor (marks_after steps)) ≡ (stands_since steps c && not (stands_above (floor_after (Taken s floor ∷ steps)) steps c)) }
+    ensures named { (c : ℕ) (steps : List MarkerStep) → FloorsRise steps → has c (marked_ids (marks_after steps)) ≡ stands_since steps c }
+    ensures taken { (s floor c : ℕ) (steps : List MarkerStep) → FloorsRise (Taken s floor ∷ steps) → has c (freed_ids s floor (marks_after steps)) ≡ (stands_since steps c && not (stands_above (floor_after (Taken s floor ∷ steps)) steps c)) }
 {}

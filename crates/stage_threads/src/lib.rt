@@ -14,7 +14,7 @@ mod back_off;
 mod stage_thread;
 
 pub use crate::back_off::{BackOff, Pause};
-pub use crate::stage_thread::{Place, StageThread};
+pub use crate::stage_thread::{StageRoom, StageThread};
 use std::sync::Wait;
 use vault_types::Turn;
 

@@ -57,20 +57,20 @@ impl<S: Stage> Model for StageThread<S> {
 /// What a stage's thread takes of memory: a box, and two shares of the word that tells the thread's closure that the thread
 /// was refused.
 #[derive(Drop)]
-pub struct Place<S: Stage> {
+pub struct StageRoom<S: Stage> {
     state: Box<State<S>>,
     mine: Arc<AtomicBool, Global>,
     theirs: Arc<AtomicBool, Global>,
 }
 
-impl<S: Stage> Place<S> {
+impl<S: Stage> StageRoom<S> {
     /// Takes all memory that `start` needs, so that a job with several stages has it before the first thread is started. The
     /// only error is `Memory`.
-    pub fn new(alloc: Global) -> Result<Place<S>, Memory> {
+    pub fn new(alloc: Global) -> Result<StageRoom<S>, Memory> {
         let state = Box::new(alloc, State::Away)?;
         let mine = Arc::new(alloc, AtomicBool::new(false))?;
         let theirs = Arc::try_clone(&mine)?;
-        Ok(Place {
+        Ok(StageRoom {
             state,
             mine,
             theirs,
@@ -109,7 +109,7 @@ impl<S: Stage> StageThread<S> {
     /// up to two milliseconds between turns while the stage is idle.
     pub fn start<'s, E: 's, R: Wait + Clock + Copy + Drop + Send + 's>(
         rt: R,
-        place: Place<S>,
+        place: StageRoom<S>,
         scope: &'s Scope<'s, E>,
         stage: S,
     ) -> StageThread<S>
@@ -124,7 +124,7 @@ impl<S: Stage> StageThread<S> {
     /// The same, in a thread with such a stack: the host refuses one that is too large.
     pub fn start_on<'s, E: 's, R: Wait + Clock + Copy + Drop + Send + 's>(
         rt: R,
-        place: Place<S>,
+        place: StageRoom<S>,
         scope: &'s Scope<'s, E>,
         stage: S,
         stack: Stack,
@@ -134,7 +134,7 @@ impl<S: Stage> StageThread<S> {
         ensures first { result.first ≡ stage }
         ensures kept { IfSome result.kept (λ s. S.same stage s) }
     {
-        let Place {
+        let StageRoom {
             mut state,
             mine,
             theirs,

@@ -3,7 +3,7 @@
 
 ghost use Rattle.std.specs.Prelude.{◌≡◌, ℕ, List, [], ◌++◌, map, OnOk};
 ghost use Rattle.vault_types.specs.Cuts.{cuts, settled, unsettled, only_bytes, HasCut};
-ghost use Rattle.stream_cutter.specs.Cutters.{IsCuttable};
+ghost use Rattle.vault_types.specs.JobRanges.{IsCuttable};
 
 use chunk_ae::Ae;
 use chunk_fixed::Fixed;

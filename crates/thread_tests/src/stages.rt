@@ -6,7 +6,7 @@ ghost use Rattle.vault_types.specs.declared.Turn.TheVariants.{Idle};
 
 use core::thread::Stack;
 use stage_queue::{Rx, Tx, line};
-use stage_threads::{BackOff, Place, Stage, StageThread, together};
+use stage_threads::{BackOff, Stage, StageRoom, StageThread, together};
 use std::alloc::Global;
 use std::sync::Wait;
 use std::test::Fail;
@@ -90,7 +90,11 @@ impl Row {
         let (_, to, second_from) = line(alloc, capacity)?;
         let (_, second_to, third_from) = line(alloc, capacity)?;
         let (_, third_to, far) = line(alloc, capacity)?;
-        let places = (Place::new(alloc)?, Place::new(alloc)?, Place::new(alloc)?);
+        let places = (
+            StageRoom::new(alloc)?,
+            StageRoom::new(alloc)?,
+            StageRoom::new(alloc)?,
+        );
         let first = CarryStage {
             from,
             to,
@@ -260,7 +264,7 @@ fn ended_alone<R: Threads + Wait + Clock + Copy + Drop + Send>(
     thread::scope(thread::scope_env(), &rt, |scope| {
         let (_, mut near, from) = line(alloc, 4)?;
         let (_, to, mut far) = line(alloc, 4)?;
-        let place = Place::new(alloc)?;
+        let place = StageRoom::new(alloc)?;
         let stage = CarryStage {
             from,
             to,

@@ -4,7 +4,7 @@ use Rattle.std.proofs.lemmas.List.{append-nil, take_more, take_all}
 use Rattle.std.specs.Prelude.{◌==◌}
 use Rattle.std.specs.List.{All}
 use Rattle.vault_types.specs.Shelf.{Blobs, with_blob}
-use Rattle.vault_traits.specs.Crash.{Step, Wrote, Settled, History, IsImage}
+use Rattle.vault_traits.specs.Crash.{ShelfStep, Wrote, Settled, History, IsImage}
 use Rattle.vault_ports.specs.declared.entries.Entry.{Entry}
 use Rattle.vault_ports.specs.declared.entries.Entry.TheVariants.{Put, Floor, Remove, Settle}
 use Rattle.vault_ports.specs.Record.{Write, reading, history_from, history_then, settled, writes_since, carried_out, image_of, entry_step, steps_after, applied, replayed, IsWrite, writes_of, last_write, AreSettled}
@@ -25,26 +25,26 @@ image_step h w t image = elim (carried_push (settled h) (writes_since h) w t) [
   | inr e ↦ inr (image_of h t, image, e)
 ]
 
-image_from : (base : Blobs) (steps : List Step) (t : ℕ) → IsImage (history_from base steps) (image_of (history_from base steps) t)
+image_from : (base : Blobs) (steps : List ShelfStep) (t : ℕ) → IsImage (history_from base steps) (image_of (history_from base steps) t)
 image_from base [] t = refl
 image_from base (Wrote name bytes ∷ past) t = image_step (history_from base past) (name, bytes) t (image_from base past t)
 image_from base (Settled m ∷ past) t = refl
 
-pub is_image : (base : Blobs) (steps : List Step) (last : Option Write) (t : ℕ) → IsImage (history_then (history_from base steps) last) (image_of (history_then (history_from base steps) last) t)
+pub is_image : (base : Blobs) (steps : List ShelfStep) (last : Option Write) (t : ℕ) → IsImage (history_then (history_from base steps) last) (image_of (history_then (history_from base steps) last) t)
 is_image base steps None t = image_from base steps t
 is_image base steps (Some w) t = image_step (history_from base steps) w t (image_from base steps t)
 
 -- ---- entries
 
 -- all that was done is what is read
-pub reading_replayed : (base : Blobs) (past : List Step) (es : List Entry) → reading base (steps_after base past es) ≡ replayed (reading base past) es
+pub reading_replayed : (base : Blobs) (past : List ShelfStep) (es : List Entry) → reading base (steps_after base past es) ≡ replayed (reading base past) es
 reading_replayed base past [] = refl
 reading_replayed base past (Put w ∷ es) = reading_replayed base (entry_step (reading base past) (Put w) ∷ past) es
 reading_replayed base past (Floor set f ∷ es) = reading_replayed base (entry_step (reading base past) (Floor set f) ∷ past) es
 reading_replayed base past (Remove name ∷ es) = reading_replayed base (entry_step (reading base past) (Remove name) ∷ past) es
 reading_replayed base past (Settle ∷ es) = reading_replayed base (entry_step (reading base past) Settle ∷ past) es
 
-pub steps_append : (base : Blobs) (past : List Step) (es fs : List Entry) → steps_after base past (es ++ fs) ≡ steps_after base (steps_after base past es) fs
+pub steps_append : (base : Blobs) (past : List ShelfStep) (es fs : List Entry) → steps_after base past (es ++ fs) ≡ steps_after base (steps_after base past es) fs
 steps_append base past [] fs = refl
 steps_append base past (e ∷ es) fs = steps_append base (entry_step (reading base past) e ∷ past) es fs
 
@@ -63,8 +63,8 @@ none_settled base = (refl, refl)
 
 ends_settled : (es : List Entry) → AreSettled (es ++ Settle ∷ [])
 ends_settled es base = (
-  ap (λ (s : List Step). settled (history_from base s)) (steps_append base [] es (Settle ∷ [])) ∙ reading_replayed base [] es ∙ sym (replayed_settle base es),
-  ap (λ (s : List Step). writes_since (history_from base s)) (steps_append base [] es (Settle ∷ [])),
+  ap (λ (s : List ShelfStep). settled (history_from base s)) (steps_append base [] es (Settle ∷ [])) ∙ reading_replayed base [] es ∙ sym (replayed_settle base es),
+  ap (λ (s : List ShelfStep). writes_since (history_from base s)) (steps_append base [] es (Settle ∷ [])),
 )
 
 pub settled_here : (es : List Entry) (i : ℕ) (e : Entry) → i < length es → e ≡ get_or es i e → e ≡ Settle → AreSettled (take (i + 1) es)
@@ -78,14 +78,14 @@ head_write e es all = all 0 e (omega arith)
 tail_writes : (e : Entry) (es : List Entry) → All IsWrite (e ∷ es) → All IsWrite es
 tail_writes e es all = λ k d within. all (suc k) d (omega arith)
 
-settled_writes : (base : Blobs) (past : List Step) (es : List Entry) → All IsWrite es → settled (history_from base (steps_after base past es)) ≡ settled (history_from base past)
+settled_writes : (base : Blobs) (past : List ShelfStep) (es : List Entry) → All IsWrite es → settled (history_from base (steps_after base past es)) ≡ settled (history_from base past)
 settled_writes base past [] all = refl
 settled_writes base past (Put w ∷ es) all = settled_writes base (entry_step (reading base past) (Put w) ∷ past) es (tail_writes (Put w) es all)
 settled_writes base past (Floor set f ∷ es) all = settled_writes base (entry_step (reading base past) (Floor set f) ∷ past) es (tail_writes (Floor set f) es all)
 settled_writes base past (Remove name ∷ es) all = settled_writes base (entry_step (reading base past) (Remove name) ∷ past) es (tail_writes (Remove name) es all)
 settled_writes base past (Settle ∷ es) all = absurd (head_write Settle es all)
 
-since_writes : (base : Blobs) (past : List Step) (es : List Entry) → All IsWrite es → writes_since (history_from base (steps_after base past es)) ≡ writes_since (history_from base past) ++ writes_of es
+since_writes : (base : Blobs) (past : List ShelfStep) (es : List Entry) → All IsWrite es → writes_since (history_from base (steps_after base past es)) ≡ writes_since (history_from base past) ++ writes_of es
 since_writes base past [] all = sym (append-nil (writes_since (history_from base past)))
 since_writes base past (Put w ∷ es) all = since_writes base (entry_step (reading base past) (Put w) ∷ past) es (tail_writes (Put w) es all) ∙ append_assoc (writes_since (history_from base past)) _ (writes_of es)
 since_writes base past (Floor set f ∷ es) all = since_writes base (entry_step (reading base past) (Floor set f) ∷ past) es (tail_writes (Floor set f) es all) ∙ append_assoc (writes_since (history_from base past)) _ (writes_of es)
@@ -111,7 +111,7 @@ image_exact base m1 m2 m3 es k taken rest last first writes ends chosen at_last 
     ∙ ap (λ (m : Blobs). carried_out m (writes_of (drop k es) ++ last_write last) taken) (sym is_settled)
     ∙ ap (λ (ws : List Write). carried_out (settled h) ws taken) (sym are_writes)
   where
-    front : List Step
+    front : List ShelfStep
     front = steps_after base [] (take k es)
 
     h : History
@@ -121,12 +121,12 @@ image_exact base m1 m2 m3 es k taken rest last first writes ends chosen at_last 
     same = ap (steps_after base []) (sym (take-append-drop k es)) ∙ steps_append base [] (take k es) (drop k es)
 
     is_settled : settled h ≡ m1
-    is_settled = settled_then (history_from base (steps_after base [] es)) last ∙ ap (λ (s : List Step). settled (history_from base s)) same
+    is_settled = settled_then (history_from base (steps_after base [] es)) last ∙ ap (λ (s : List ShelfStep). settled (history_from base s)) same
         ∙ settled_writes base front (drop k es) writes ∙ (ends base).0 ∙ sym first
 
     are_writes : writes_since h ≡ writes_of (drop k es) ++ last_write last
     are_writes = since_then (history_from base (steps_after base [] es)) last
-        ∙ ap (λ (ws : List Write). ws ++ last_write last) (ap (λ (s : List Step). writes_since (history_from base s)) same ∙ since_writes base front (drop k es) writes ∙ ap (λ (ws : List Write). ws ++ writes_of (drop k es)) (ends base).1)
+        ∙ ap (λ (ws : List Write). ws ++ last_write last) (ap (λ (s : List ShelfStep). writes_since (history_from base s)) same ∙ since_writes base front (drop k es) writes ∙ ap (λ (ws : List Write). ws ++ writes_of (drop k es)) (ends base).1)
 
 -- one entry more that is no settle
 pub writes_more : (es : List Entry) (from to i : ℕ) (e : Entry) → to ≡ from → i < length es → e ≡ get_or es i e → (e ≡ Settle → ⊥) → ((k : ℕ) (d : Entry) → from ≤ k → k < i → IsWrite (get_or es k d))

@@ -7,7 +7,7 @@ use Rattle.std.specs.FinMap as map
 use Rattle.vault_types.specs.declared.Name.{Name}
 use Rattle.vault_types.specs.Shelf.{Blobs, with_blob, floor_name}
 use Rattle.vault_traits.specs.Counts.{counted}
-use Rattle.vault_traits.specs.Crash.{Step, Wrote, Settled, History, IsImage, ReadsAnImage}
+use Rattle.vault_traits.specs.Crash.{ShelfStep, Wrote, Settled, History, IsImage, ReadsAnImage}
 use Rattle.vault_traits.specs.Codes.{coded_name, coded_blobs, coded_step}
 use Rattle.vault_ports.specs.declared.entries.Entry.{Entry}
 use Rattle.vault_ports.specs.declared.entries.Entry.TheVariants.{Put, Floor, Remove, Settle}
@@ -21,7 +21,7 @@ Write = Name × Option (List ℕ)
 -- the number of the call at which it stops, how many calls there were, how many failed, and how many gets of a payload
 pub record Record : Type 0 where
   pub base : Blobs
-  pub steps : List Step
+  pub steps : List ShelfStep
   pub last : Option Write
   pub stop : ℕ
   pub calls : ℕ
@@ -29,20 +29,20 @@ pub record Record : Type 0 where
   pub gets : ℕ
 
 abbrev pub coded_record : Coded Record
-coded_record = code_by (Blobs × (List Step × (Option Write × (ℕ × (ℕ × (ℕ × ℕ))))))
+coded_record = code_by (Blobs × (List ShelfStep × (Option Write × (ℕ × (ℕ × (ℕ × ℕ))))))
     (coded× coded_blobs (coded× (coded_list coded_step) (coded× (coded_option (coded× coded_name (coded_option (coded_list coded_ℕ)))) (coded× coded_ℕ (coded× coded_ℕ (coded× coded_ℕ coded_ℕ))))))
     (λ r. (r.base, (r.steps, (r.last, (r.stop, (r.calls, (r.faults, r.gets)))))))
     (λ p. record { base = p.0; steps = p.1.0; last = p.1.1.0; stop = p.1.1.1.0; calls = p.1.1.1.1.0; faults = p.1.1.1.1.1.0; gets = p.1.1.1.1.1.1 })
     (λ _. refl)
 
 -- what is read after these steps
-abbrev pub reading : Blobs → List Step → Blobs
+abbrev pub reading : Blobs → List ShelfStep → Blobs
 reading base [] = base
 reading base (Wrote name bytes ∷ past) = with_blob (reading base past) name bytes
 reading base (Settled m ∷ past) = m
 
 -- the history of these steps, and with the write at the stop
-abbrev pub history_from : Blobs → List Step → History
+abbrev pub history_from : Blobs → List ShelfStep → History
 history_from base steps = steps ++ Settled base ∷ []
 
 abbrev pub history_then : History → Option Write → History
@@ -99,14 +99,14 @@ pub record IsRefused (before after : Record) (name : Name) (bytes : Option (List
 -- ---- of the entries
 
 -- the step of an entry, over the blobs that are read before it
-abbrev pub entry_step : Blobs → Entry → Step
+abbrev pub entry_step : Blobs → Entry → ShelfStep
 entry_step m (Put w) = Wrote w.name (Some w.bytes.items)
 entry_step m (Floor set f) = Wrote (floor_name set) (Some f)
 entry_step m (Remove name) = Wrote name None
 entry_step m Settle = Settled m
 
 -- the steps of entries, the oldest first
-abbrev pub steps_after : Blobs → List Step → List Entry → List Step
+abbrev pub steps_after : Blobs → List ShelfStep → List Entry → List ShelfStep
 steps_after base past [] = past
 steps_after base past (e ∷ es) = steps_after base (entry_step (reading base past) e ∷ past) es
 
@@ -119,12 +119,12 @@ entry_write (Some (Remove name)) = Some (name, None)
 entry_write (Some Settle) = None
 
 -- what is read is an image
-pub reads_from : (base : Blobs) (steps : List Step) → IsImage (history_from base steps) (reading base steps)
+pub reads_from : (base : Blobs) (steps : List ShelfStep) → IsImage (history_from base steps) (reading base steps)
 reads_from base [] = refl
 reads_from base (Wrote name bytes ∷ past) = inr (reading base past, reads_from base past, refl)
 reads_from base (Settled m ∷ past) = refl
 
-pub reads_then : (base : Blobs) (steps : List Step) (last : Option Write) → IsImage (history_then (history_from base steps) last) (reading base steps)
+pub reads_then : (base : Blobs) (steps : List ShelfStep) (last : Option Write) → IsImage (history_then (history_from base steps) last) (reading base steps)
 reads_then base steps None = reads_from base steps
 reads_then base steps (Some write) = inl (reads_from base steps)
 

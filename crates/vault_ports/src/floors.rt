@@ -1,10 +1,9 @@
 // The floors of 256 sets, in place: setting one takes no memory.
-ghost use Rattle.std.specs.Prelude.{◌≡◌, ◌<◌, ◌++◌, ℕ, Some, None, MatchOption, IfOk, OnOk};
+ghost use Rattle.std.specs.Prelude.{◌≡◌, ◌<◌, ◌++◌, ℕ, Some, None, MatchOption, IfOk, OnOk, ◌||◌};
 ghost use Rattle.std.specs.Option.{option_map};
 ghost use Rattle.std.specs.FinMap as map;
 ghost use Rattle.std.specs.Set.{is_member};
 ghost use Rattle.std.specs.Ordering.{eq_by_cmp};
-ghost use Rattle.std.specs.Prelude.{◌||◌};
 ghost use Rattle.vault_types.specs.Shelf.{floor_name, name_cmp, with_blob};
 
 use std::marker::Model;

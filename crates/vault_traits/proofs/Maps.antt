@@ -10,8 +10,7 @@ use Rattle.std.proofs.lemmas.Cmp.{on_total, then_total}
 use Rattle.vault_types.specs.declared.Name.{Name}
 use Rattle.vault_types.specs.declared.Kind.{Kind}
 use Rattle.vault_types.specs.declared.Kind.TheVariants.{Table, Payload, Recipe, Floor}
-use Rattle.vault_types.specs.Shelf.{kind_rank, name_cmp}
-use Rattle.vault_types.specs.Shelf.{Blobs, with_blob, blob_at}
+use Rattle.vault_types.specs.Shelf.{kind_rank, name_cmp, Blobs, with_blob, blob_at}
 use Rattle.vault_traits.specs.Crash.{History}
 use Rattle.vault_traits.specs.Shelf.{blobs_with, MayBeWritten}
 

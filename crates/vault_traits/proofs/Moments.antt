@@ -2,7 +2,7 @@
 use Rattle.std.proofs.Common.{◌≡◌, ◌⊎◌, inl, inr, ⊎_elim, ℕ, List, [], ◌∷◌, ◌++◌, length, Option, Some, None, refl, sym, ◌∙◌, ap, subst, arith, append_assoc}
 use Rattle.vault_types.specs.declared.Name.{Name}
 use Rattle.vault_types.specs.Shelf.{Blobs, with_blob}
-use Rattle.vault_traits.specs.Crash.{Step, Wrote, Settled, History, IsImage, LeftSince, LeavesNow, LeavesThrough, LeavesOnly, LeavesNowIfTold, LeavesOnlyIfTold, ReadsAnImage}
+use Rattle.vault_traits.specs.Crash.{ShelfStep, Wrote, Settled, History, IsImage, LeftSince, LeavesNow, LeavesThrough, LeavesOnly, LeavesNowIfTold, LeavesOnlyIfTold, ReadsAnImage}
 use Rattle.vault_traits.specs.Shelf.{history_with, history_settled, IsWritten, MayBeWritten}
 
 -- ---- of steps that are told
@@ -12,27 +12,27 @@ pub leaves_write : (P : Blobs → Type 0) (past : History) (name : Name) (bytes 
 leaves_write P past name bytes before bears c (inl was) = before c was
 leaves_write P past name bytes before bears c (inr made) = subst P (sym made.2) (bears made.0 (before made.0 made.1))
 
-leaves_more : (P Q : Blobs → Type 0) (steps : List Step) (past : History) → ((c : Blobs) → P c → Q c) → LeavesThrough P steps past → LeavesThrough Q steps past
+leaves_more : (P Q : Blobs → Type 0) (steps : List ShelfStep) (past : History) → ((c : Blobs) → P c → Q c) → LeavesThrough P steps past → LeavesThrough Q steps past
 leaves_more P Q [] past more each = λ c image. more c (each c image)
 leaves_more P Q (step ∷ steps) past more each = (λ c image. more c (each.0 c image), leaves_more P Q steps past more each.1)
 
-leaves_both : (P : Blobs → Type 0) (newer older : List Step) (past : History) → LeavesThrough P older past → LeavesThrough P newer (older ++ past) → LeavesThrough P (newer ++ older) past
+leaves_both : (P : Blobs → Type 0) (newer older : List ShelfStep) (past : History) → LeavesThrough P older past → LeavesThrough P newer (older ++ past) → LeavesThrough P (newer ++ older) past
 leaves_both P [] older past first second = first
 leaves_both P (step ∷ newer) older past first second = (
   subst (λ (h : History). LeavesNow (step ∷ h) P) (sym (append_assoc newer older past)) second.0,
   leaves_both P newer older past first second.1,
 )
 
-leaves_last : (P : Blobs → Type 0) (steps : List Step) (past : History) → LeavesThrough P steps past → LeavesNow (steps ++ past) P
+leaves_last : (P : Blobs → Type 0) (steps : List ShelfStep) (past : History) → LeavesThrough P steps past → LeavesNow (steps ++ past) P
 leaves_last P [] past each = each
 leaves_last P (step ∷ steps) past each = each.0
 
-no_more : (steps : List Step) (past : History) (c : Blobs) → LeftSince (length past) past c → IsImage past c
+no_more : (steps : List ShelfStep) (past : History) (c : Blobs) → LeftSince (length past) past c → IsImage past c
 no_more steps [] c left = left
 no_more steps (step ∷ past) c (inl image) = image
 no_more steps (step ∷ past) c (inr earlier) = absurd (omega (arith, earlier.0))
 
-through_since : (P : Blobs → Type 0) (steps : List Step) (past : History) → LeavesThrough P steps past → (c : Blobs) → LeftSince (length past) (steps ++ past) c → P c
+through_since : (P : Blobs → Type 0) (steps : List ShelfStep) (past : History) → LeavesThrough P steps past → (c : Blobs) → LeftSince (length past) (steps ++ past) c → P c
 through_since P [] past each c left = each c (no_more [] past c left)
 through_since P (step ∷ steps) past each c (inl image) = each.0 c image
 through_since P (step ∷ steps) past each c (inr earlier) = through_since P steps past each.1 c earlier.1

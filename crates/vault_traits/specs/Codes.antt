@@ -6,9 +6,8 @@ use Rattle.std.specs.FinMap as map
 use Rattle.vault_types.specs.declared.Name.{Name}
 use Rattle.vault_types.specs.declared.Kind.{Kind}
 use Rattle.vault_types.specs.declared.Kind.TheVariants.{Table, Payload, Recipe, Floor}
-use Rattle.vault_types.specs.Shelf.{kind_rank}
-use Rattle.vault_types.specs.Shelf.{Blobs}
-use Rattle.vault_traits.specs.Crash.{Step, Wrote, Settled, History}
+use Rattle.vault_types.specs.Shelf.{kind_rank, Blobs}
+use Rattle.vault_traits.specs.Crash.{ShelfStep, Wrote, Settled, History}
 
 abbrev pub kind_at : ℕ → Kind
 kind_at zero = Table
@@ -30,19 +29,19 @@ abbrev pub coded_blobs : Coded Blobs
 coded_blobs = map.code coded_name (coded_list coded_ℕ)
 
 -- a step is stored as a write or a map
-abbrev pub step_parts : Step → (Name × Option (List ℕ)) ⊎ Blobs
+abbrev pub step_parts : ShelfStep → (Name × Option (List ℕ)) ⊎ Blobs
 step_parts (Wrote name bytes) = inl (name, bytes)
 step_parts (Settled m) = inr m
 
-abbrev pub step_of : (Name × Option (List ℕ)) ⊎ Blobs → Step
+abbrev pub step_of : (Name × Option (List ℕ)) ⊎ Blobs → ShelfStep
 step_of (inl write) = Wrote write.0 write.1
 step_of (inr m) = Settled m
 
-pub step_back : (s : Step) → step_of (step_parts s) ≡ s
+pub step_back : (s : ShelfStep) → step_of (step_parts s) ≡ s
 step_back (Wrote name bytes) = refl
 step_back (Settled m) = refl
 
-abbrev pub coded_step : Coded Step
+abbrev pub coded_step : Coded ShelfStep
 coded_step = code_by ((Name × Option (List ℕ)) ⊎ Blobs) (coded⊎ (coded× coded_name (coded_option (coded_list coded_ℕ))) coded_blobs) step_parts step_of step_back
 
 abbrev pub coded_history : Coded History

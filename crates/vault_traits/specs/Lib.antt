@@ -4,3 +4,5 @@ pub mod Told
 pub mod Shelf
 pub mod Files
 pub mod Codes
+pub mod Causes
+pub mod Writes

@@ -5,12 +5,11 @@ use Rattle.vault_types.specs.declared.Name.{Name}
 use Rattle.vault_types.specs.declared.Kind.{Kind}
 use Rattle.vault_types.specs.declared.Kind.TheVariants.{Table, Payload, Recipe, Floor}
 use Rattle.vault_traits.specs.Counts.{counted}
-use Rattle.vault_types.specs.Shelf.{Blobs, with_blob}
+use Rattle.vault_types.specs.Shelf.{Blobs, with_blob, name_cmp}
 use Rattle.std.specs.FinMap as map
 use Rattle.std.specs.List.Sorted.{IsStrictlySortedBy}
 use Rattle.std.specs.Set.{is_member}
 use Rattle.std.specs.Ordering.{eq_by_cmp}
-use Rattle.vault_types.specs.Shelf.{name_cmp}
 use Rattle.vault_traits.specs.Crash.{Wrote, Settled, History}
 use Rattle.vault_traits.specs.Told.{ShelfTold}
 

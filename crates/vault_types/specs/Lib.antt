@@ -23,3 +23,7 @@ pub mod Generator
 pub mod Refusals
 pub mod Marks
 pub mod Standard
+pub mod RecipeForms
+pub mod JobRanges
+pub mod BlobDamage
+pub mod FirstDamage

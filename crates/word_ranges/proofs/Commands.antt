@@ -7,7 +7,7 @@ use Rattle.std.proofs.lemmas.Bool.{and_parts}
 use Rattle.vault_types.specs.declared.Command.{Command}
 use Rattle.vault_types.specs.declared.Command.TheVariants as command
 use Rattle.vault_types.specs.Words.{Number, Kinds, Settings, allows, are_allowed, names_differ, set_kind, job_kinds, queue_kinds, sample_kinds, version_kind, cache_kind, area_kind, workers_kind, job_agrees, sample_agrees, always, has_value, area_agrees, backup_command, restore_command, delete_command, show_command, batch_command, fill_command, scrub_command, command_with, command_of, settings_of}
-use Rattle.word_ranges.specs.Ranges.{IsCommandInRange}
+use Rattle.store_model.specs.Ranges.{IsCommandInRange}
 use Rattle.word_ranges.proofs.Ranges.{settings_within, job_in_range}
 
 -- what is there lies in its range

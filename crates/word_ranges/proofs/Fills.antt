@@ -11,9 +11,9 @@ use Rattle.vault_types.specs.declared.Line.{Line}
 use Rattle.vault_types.specs.declared.Line.TheVariants.{Backup, Restore, Delete}
 use Rattle.vault_types.specs.Generator.{fill_config, fill_lines}
 use Rattle.vault_types.specs.Words.{is_one_of, may_follow}
-use Rattle.backup_pass.specs.Passing.{IsInRange}
-use Rattle.script_laws.specs.Outputs.{AreApartFrom, AreApartLines}
-use Rattle.word_ranges.specs.Ranges.{IsLineInRange}
+use Rattle.vault_types.specs.JobRanges.{IsInRange}
+use Rattle.store_model.specs.Outputs.{AreApartFrom, AreApartLines}
+use Rattle.store_model.specs.Ranges.{IsLineInRange}
 
 abbrev source : ℕ → List ℕ
 source v = codes "gen-" ++ decimal v

@@ -8,8 +8,8 @@ use Rattle.std.proofs.lemmas.Bool.{and_parts}
 use Rattle.vault_types.specs.declared.Line.{Line}
 use Rattle.vault_types.specs.declared.Line.TheVariants as line
 use Rattle.vault_types.specs.Words.{Number, Kinds, Settings, allows, are_allowed, names_differ, set_kind, job_kinds, cache_kind, set_in, config_in, cache_in, job_agrees, always, checked, is_name, is_value, is_allowed, value_of_digits, backup_line, restore_line, delete_line, line_settings, line_with, line_of, split_at_byte, sources_of, outputs_of, may_follow, only_after, with_line, script_from, script_of, lines_of}
-use Rattle.script_laws.specs.Outputs.{AreApartFrom, AreApartLines}
-use Rattle.word_ranges.specs.Ranges.{IsLineInRange}
+use Rattle.store_model.specs.Outputs.{AreApartFrom, AreApartLines}
+use Rattle.store_model.specs.Ranges.{IsLineInRange}
 use Rattle.word_ranges.proofs.Ranges.{settings_within, job_in_range}
 
 -- what is there lies in its range

@@ -7,8 +7,7 @@ use Rattle.std.proofs.lemmas.Bool.{and_parts, or_cases, cases_Bool, leb-true, fa
 use Rattle.std.proofs.lemmas.Bool.Decides.{nat_tests}
 use Rattle.vault_types.specs.declared.Cutting.TheVariants.{Fixed, Ae}
 use Rattle.vault_types.specs.Words.{Allowed, Number, Word, Kinds, Settings, number, number_in, in_range, is_allowed, is_value, allows, agrees, job_agrees, config_in, is_word}
-use Rattle.backup_pass.specs.Passing.{IsInRange}
-use Rattle.stream_cutter.specs.Cutters.{IsCuttable}
+use Rattle.vault_types.specs.JobRanges.{IsInRange, IsCuttable}
 
 -- a number in a range, as two orders
 abbrev pub IsWithin : ℕ → ℕ → ℕ → Type 0

@@ -7,8 +7,8 @@ ghost use Rattle.vault_types.specs.declared.Command.{Command};
 ghost use Rattle.vault_types.specs.declared.Line.{Line};
 ghost use Rattle.vault_types.specs.Generator.{fill_lines};
 ghost use Rattle.vault_types.specs.Words.{command_of, script_of};
-ghost use Rattle.script_laws.specs.Outputs.{AreApartLines};
-ghost use Rattle.word_ranges.specs.Ranges.{IsCommandInRange, IsLineInRange};
+ghost use Rattle.store_model.specs.Outputs.{AreApartLines};
+ghost use Rattle.store_model.specs.Ranges.{IsCommandInRange, IsLineInRange};
 
 /// The settings of a command are in their ranges.
 pub fn commands_are_in_range()

@@ -42,13 +42,13 @@ impl FillVersion {
 
 // A name, and the version that it gives, or else its bytes.
 #[derive(Drop)]
-pub struct Place {
+pub struct FillPlace {
     pub name: Text,
     pub version: Option<FillVersion>,
     pub bytes: ListOf<u8>,
 }
 
-impl Place {
+impl FillPlace {
     ghost use Rattle.std.specs.Prelude.{◌≡◌, None};
 
     // Has these bytes in place of what it had.

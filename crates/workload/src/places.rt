@@ -9,7 +9,7 @@ ghost use Rattle.workload.specs.Places.{told_of, file_at, output_at, place_at, v
 
 use crate::generated::Generated;
 use crate::listing::{add_sources, empty, give, version_at, written_at};
-use crate::place::Place;
+use crate::place::FillPlace;
 use crate::sink::FillSink;
 use crate::sums::sum_of_rest;
 use fingerprint_stage::sum;
@@ -24,7 +24,7 @@ use vault_types::{Fp, Memory};
 #[derive(Drop)]
 pub struct FillPlaces {
     seed: u64,
-    places: Vec<Place>,
+    places: Vec<FillPlace>,
     write_faults: u64,
 }
 

@@ -3,7 +3,7 @@ use Rattle.std.specs.Prelude.{OnOk}
 use Rattle.vault_types.specs.declared.Table.{Table}
 use Rattle.vault_types.specs.Blobs.{table_bytes}
 use Rattle.vault_types.specs.Shelf.{table_name, payload_name}
-use Rattle.blob_parts.specs.Writes.{AreWritten, MayBeWrittenInTurn}
+use Rattle.vault_traits.specs.Writes.{AreWritten, MayBeWrittenInTurn}
 use Rattle.container_store.proofs.Along.{along}
 use Rattle.container_store.proofs.put.Goals as goal
 

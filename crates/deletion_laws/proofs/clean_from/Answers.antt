@@ -4,7 +4,7 @@ use Rattle.vault_types.specs.declared.Name.{Name}
 use Rattle.vault_types.specs.Events.{IsNear}
 use Rattle.vault_traits.proofs.Maps.{other_blob}
 use Rattle.vault_traits.proofs.Moments.{stays, silent_write}
-use Rattle.keeper_parts.specs.Parts.{HeldIfTold, with_strays}
+use Rattle.state_laws.specs.Parts.{HeldIfTold, with_strays}
 use Rattle.keeper_parts.proofs.Cleaning.{removed_from, few_left, few_gone, ok_of, err_of}
 use Rattle.keeper_parts.proofs.Telling.{tells_may}
 use Rattle.deletion_laws.proofs.Removing.{apart_from, front_stays, behind_fewer, silent_blobs, loop_stays, loop_goes, loop_moment}

@@ -4,7 +4,7 @@ use Rattle.vault_types.specs.declared.Name.{Name}
 use Rattle.vault_types.specs.Shelf.{blob_at}
 use Rattle.vault_types.specs.Events.{Core, IsNear}
 use Rattle.vault_traits.specs.Crash.{LeavesNowIfTold, LeavesOnlyIfTold}
-use Rattle.keeper_parts.specs.Parts.{HeldIfTold, with_strays}
+use Rattle.state_laws.specs.Parts.{HeldIfTold, with_strays}
 use Rattle.deletion_laws.specs.Removal.{AreIdle}
 use Rattle.deletion_laws.proofs.clean_from.Given as goal
 

@@ -4,8 +4,8 @@ use Rattle.vault_types.specs.declared.Fault.{Fault}
 use Rattle.vault_types.specs.Lists.{IsAscending, set_of}
 use Rattle.vault_types.specs.Shelf.{Blobs}
 use Rattle.vault_types.proofs.SetLemmas.{IsAscending-set_of}
-use Rattle.blob_parts.specs.Causes.{IsCause}
-use Rattle.keeper_open.specs.Damage.{IsDamageOf}
+use Rattle.vault_traits.specs.Causes.{IsCause}
+use Rattle.vault_types.specs.FirstDamage.{IsDamageOf}
 use Rattle.keeper_open.specs.Reading.{AreFloors, AreSets, AreTables, IsFirstTable, IsFound, all_recipes, rows_of, needs}
 use Rattle.keeper_open.proofs.Gathering.{causes_again}
 use Rattle.keeper_open.proofs.Judging.{table_damage_of, row_damage_of}

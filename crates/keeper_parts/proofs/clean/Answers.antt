@@ -1,10 +1,9 @@
 use Rattle.std.proofs.Common.{sym, ◌∙◌, ap, subst, arith, ◌≡◌, ◌≤◌, ◌<◌, ◌+◌, ◌-◌, ◌^◌, ℕ, length, rules, refl}
-use Rattle.std.specs.Prelude.{Contains, vec_len}
+use Rattle.std.specs.Prelude.{Contains, vec_len, List}
 use Rattle.std.specs.List.{remove}
 use Rattle.std.proofs.lemmas.Grind.{common_steps}
-use Rattle.std.specs.Prelude.{List}
 use Rattle.vault_types.specs.declared.Name.{Name}
-use Rattle.keeper_parts.specs.Parts.{HeldIfTold, with_strays}
+use Rattle.state_laws.specs.Parts.{HeldIfTold, with_strays}
 use Rattle.vault_types.specs.Events.{IsNear}
 use Rattle.vault_traits.proofs.Moments.{stays}
 use Rattle.keeper_parts.proofs.Cleaning.{removed_from, stays_held, goes_held, moment, few_left, few_gone, ok_of, err_of}

@@ -3,7 +3,7 @@ use Rattle.std.specs.Prelude.{Contains}
 use Rattle.vault_types.specs.declared.Name.{Name}
 use Rattle.vault_types.specs.Events.{Core, IsNear}
 use Rattle.vault_traits.specs.Crash.{LeavesNowIfTold, LeavesOnlyIfTold}
-use Rattle.keeper_parts.specs.Parts.{HeldIfTold, with_strays, CanClean}
+use Rattle.state_laws.specs.Parts.{HeldIfTold, with_strays, CanClean}
 use Rattle.keeper_parts.proofs.clean.Given as goal
 
 abbrev pub decreases-loop-left : goal.decreases-loop-left

@@ -3,8 +3,8 @@ use Rattle.vault_types.specs.Shelf.{Blobs, blob_at}
 use Rattle.vault_types.specs.Events.{IsNear, Held}
 use Rattle.vault_traits.proofs.Maps.{other_blob}
 use Rattle.vault_traits.proofs.Moments.{then, ends, may_write, stays}
-use Rattle.keeper_parts.specs.Parts.{without_other}
-use Rattle.keeper_parts.proofs.Changing.{settle_moment, settle_leaves, told_same, told_may, told_more, told_mended, recipe_near, floor_near, recipe_held, floor_held, done_of, failed_of}
+use Rattle.state_laws.specs.Parts.{without_other}
+use Rattle.state_laws.proofs.Changing.{settle_moment, settle_leaves, told_same, told_may, told_more, told_mended, recipe_near, floor_near, recipe_held, floor_held, done_of, failed_of}
 use Rattle.keeper_parts.proofs.Telling.{tells_may, tells_same}
 use Rattle.keeper_parts.proofs.mend.Goals as goal
 

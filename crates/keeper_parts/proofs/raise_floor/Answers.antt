@@ -4,8 +4,8 @@ use Rattle.vault_types.specs.Shelf.{floor_name, Stands}
 use Rattle.vault_types.specs.Events.{IsNear}
 use Rattle.vault_traits.specs.Shelf.{blobs_with}
 use Rattle.vault_traits.proofs.Moments.{then, ends, stays}
-use Rattle.keeper_parts.specs.Parts.{change}
-use Rattle.keeper_parts.proofs.Changing.{raised, settle_moment, settle_leaves, told_same, told_with, done_of, failed_of}
+use Rattle.state_laws.specs.Parts.{change}
+use Rattle.state_laws.proofs.Changing.{raised, settle_moment, settle_leaves, told_same, told_with, done_of, failed_of}
 use Rattle.keeper_parts.proofs.raise_floor.Goals as goal
 
 pub returns-in_err-put_floor-clause-any_moment : goal.returns-in_err-put_floor-clause-any_moment

@@ -1,7 +1,7 @@
 use Rattle.std.proofs.Common.{None, sym, ◌∙◌}
 use Rattle.vault_types.specs.Events.{Held, IsNear}
 use Rattle.vault_traits.proofs.Moments.{then, ends, stays}
-use Rattle.keeper_parts.proofs.Changing.{settle_moment, settle_leaves, told_same, done_of, failed_of}
+use Rattle.state_laws.proofs.Changing.{settle_moment, settle_leaves, told_same, done_of, failed_of}
 use Rattle.recipe_replacement.proofs.Replacing.{held_may, put_moment, put_near, by_settle}
 use Rattle.recipe_replacement.proofs.replace_recipe.Goals as goal
 

@@ -1,6 +1,6 @@
 use Rattle.std.proofs.Common.{None}
-use Rattle.script_laws.specs.Leaves.{Begins}
-use Rattle.script_laws.specs.Strays.{StraysOf}
+use Rattle.store_model.specs.Leaves.{Begins}
+use Rattle.store_model.specs.Strays.{StraysOf}
 use Rattle.run_laws.proofs.Earlier.{runs_opened}
 use Rattle.run_laws.proofs.openings_change_no_run.Goals as goal
 

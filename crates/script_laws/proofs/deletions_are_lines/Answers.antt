@@ -1,5 +1,5 @@
 use Rattle.std.proofs.Common.{refl}
-use Rattle.script_laws.specs.Steps.{answer_of}
+use Rattle.store_model.specs.Steps.{answer_of}
 use Rattle.script_laws.proofs.WholeLines.{delete_line}
 use Rattle.script_laws.proofs.deletions_are_lines.Goals as goal
 

@@ -3,12 +3,12 @@ use Rattle.std.proofs.Common.{◌∙◌, ap, sym, subst, refl, inr, List}
 use Rattle.std.specs.List.{AllByRecursion}
 use Rattle.vault_types.specs.declared.Line.{Line}
 use Rattle.vault_traits.specs.Told.{ShelfTold}
-use Rattle.script_laws.specs.Outputs.{AreApartLines}
-use Rattle.word_ranges.specs.Ranges.{IsLineInRange}
+use Rattle.store_model.specs.Outputs.{AreApartLines}
+use Rattle.store_model.specs.Ranges.{IsLineInRange}
 use Rattle.word_ranges.proofs.Fills.{fill_in_range, fill_apart}
-use Rattle.run_laws.specs.Early.{IsSameBut, IsStartFault}
-use Rattle.run_laws.specs.Filling.{RunsFill}
-use Rattle.run_laws.specs.World.{World}
+use Rattle.store_model.specs.Early.{IsSameBut, IsStartFault}
+use Rattle.store_model.specs.Filling.{RunsFill}
+use Rattle.store_model.specs.World.{World}
 use Rattle.command_runner.proofs.Fills.{filled}
 use Rattle.command_runner.proofs.Openings.{not_opened, status_of_slice}
 use Rattle.command_runner.proofs.filling.run_fill.Goals as goal

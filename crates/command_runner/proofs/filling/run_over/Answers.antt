@@ -2,9 +2,9 @@ use Rattle.std.specs.Prelude.{true}
 use Rattle.std.proofs.Common.{sym, subst, None}
 use Rattle.vault_types.specs.State.{State}
 use Rattle.vault_traits.specs.Told.{ShelfTold}
-use Rattle.script_laws.specs.Leaves.{Begins}
-use Rattle.script_laws.specs.Script.{RunsLines}
-use Rattle.script_laws.specs.Strays.{StraysOf}
+use Rattle.store_model.specs.Leaves.{Begins}
+use Rattle.store_model.specs.Script.{RunsLines}
+use Rattle.store_model.specs.Strays.{StraysOf}
 use Rattle.run_laws.proofs.Earlier.{runs_opened}
 use Rattle.command_runner.proofs.filling.run_over.Goals as goal
 

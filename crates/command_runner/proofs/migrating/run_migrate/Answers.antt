@@ -1,8 +1,8 @@
 use Rattle.std.proofs.Common.{refl}
-use Rattle.run_laws.specs.World.{World}
-use Rattle.run_laws.specs.Migrating.{RunsMigrate}
+use Rattle.store_model.specs.World.{World}
+use Rattle.store_model.specs.Migrating.{RunsMigrate}
 use Rattle.run_laws.proofs.MigrateRuns.{migrate_run}
-use Rattle.script_laws.specs.Steps.{answer_of}
+use Rattle.store_model.specs.Steps.{answer_of}
 use Rattle.command_runner.proofs.Openings.{one_answer, printed_one, pushed_one, status_of_slice}
 use Rattle.command_runner.proofs.migrating.run_migrate.Goals as goal
 

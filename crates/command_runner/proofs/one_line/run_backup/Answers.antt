@@ -1,8 +1,8 @@
 use Rattle.std.proofs.Common.{refl}
-use Rattle.run_laws.specs.World.{World}
-use Rattle.run_laws.specs.Courses.{RunsBackup}
+use Rattle.store_model.specs.World.{World}
+use Rattle.store_model.specs.Courses.{RunsBackup}
 use Rattle.run_laws.proofs.OneLineRuns.{backup_run}
-use Rattle.script_laws.specs.Steps.{answer_of}
+use Rattle.store_model.specs.Steps.{answer_of}
 use Rattle.command_runner.proofs.Openings.{one_answer, printed_one, pushed_one, status_of_slice}
 use Rattle.command_runner.proofs.one_line.run_backup.Goals as goal
 

@@ -1,5 +1,5 @@
-use Rattle.run_laws.specs.Filling.{outputs_text}
-use Rattle.run_laws.specs.World.{report_text}
+use Rattle.store_model.specs.Filling.{outputs_text}
+use Rattle.store_model.specs.World.{report_text}
 use Rattle.workload.specs.Places.{file_at}
 use Rattle.command_runner.proofs.Fills.{printed_first, printed_then}
 use Rattle.command_runner.proofs.outputs.print_filled.Goals as goal

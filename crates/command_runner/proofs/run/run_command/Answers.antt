@@ -1,12 +1,11 @@
-use Rattle.std.specs.Prelude.{true}
+use Rattle.std.specs.Prelude.{true, string_bytes}
 use Rattle.std.proofs.Common.{◌≡◌, ◌∙◌, ap, List, ℕ, map, Option, Some, None}
-use Rattle.std.specs.Prelude.{string_bytes}
 use Rattle.vault_types.specs.declared.Command.{Command}
 use Rattle.vault_types.specs.declared.Command.TheVariants as command
-use Rattle.run_laws.specs.World.{World}
-use Rattle.run_laws.specs.Courses.{RunsDelete, RunsRestore, RunsShow}
-use Rattle.run_laws.specs.Filling.{RunsFill}
-use Rattle.run_laws.specs.Migrating.{RunsMigrate}
+use Rattle.store_model.specs.World.{World}
+use Rattle.store_model.specs.Courses.{RunsDelete, RunsRestore, RunsShow}
+use Rattle.store_model.specs.Filling.{RunsFill}
+use Rattle.store_model.specs.Migrating.{RunsMigrate}
 use Rattle.word_ranges.proofs.Commands.{of_words}
 use Rattle.command_runner.proofs.Runs.{batch, one_line, unbuilt}
 use Rattle.command_runner.proofs.run.run_command.Goals as goal

@@ -1,6 +1,6 @@
 use Rattle.std.proofs.Common.{map}
 use Rattle.std.specs.Prelude.{string_bytes}
-use Rattle.run_laws.specs.World.{World}
+use Rattle.store_model.specs.World.{World}
 use Rattle.command_runner.proofs.Completes.{completes}
 use Rattle.command_runner.proofs.run.run_words.Goals as goal
 

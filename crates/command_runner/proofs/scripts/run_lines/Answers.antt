@@ -3,10 +3,10 @@ use Rattle.std.proofs.Common.{◌≡◌, inr, refl, sym, subst, ◌∙◌, List,
 use Rattle.vault_types.specs.State.{State}
 use Rattle.vault_types.specs.declared.Answer.{Answer}
 use Rattle.vault_traits.specs.Told.{ShelfTold}
-use Rattle.script_laws.specs.Leaves.{Begins}
-use Rattle.script_laws.specs.Script.{RunsLines}
-use Rattle.script_laws.specs.Strays.{StraysOf}
-use Rattle.run_laws.specs.World.{IsPrinted, report_text}
+use Rattle.store_model.specs.Leaves.{Begins}
+use Rattle.store_model.specs.Script.{RunsLines}
+use Rattle.store_model.specs.Strays.{StraysOf}
+use Rattle.store_model.specs.World.{IsPrinted, report_text}
 use Rattle.run_laws.proofs.Earlier.{runs_opened}
 use Rattle.command_runner.proofs.Openings.{status_of_slice}
 use Rattle.command_runner.proofs.scripts.run_lines.Goals as goal

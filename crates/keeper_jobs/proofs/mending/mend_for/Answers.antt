@@ -1,7 +1,7 @@
 use Rattle.std.proofs.Common.{arith, sym, ◌∙◌, ◌≡◌, Some}
 use Rattle.keeper_jobs.specs.Jobs.{mended_by}
-use Rattle.keeper_parts.proofs.Changing.{latest_low, recipe_no_floor}
-use Rattle.keeper_parts.proofs.Growing.{floor_pos}
+use Rattle.state_laws.proofs.Changing.{latest_low, recipe_no_floor}
+use Rattle.state_laws.proofs.Growing.{floor_pos}
 use Rattle.keeper_jobs.proofs.Seeing.{mends, floor_low, not_mended}
 use Rattle.keeper_jobs.proofs.mending.mend_for.Goals as goal
 

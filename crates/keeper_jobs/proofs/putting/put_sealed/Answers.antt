@@ -1,8 +1,8 @@
 use Rattle.std.proofs.Common.{⊎_elim, List, ◌++◌, sym, ◌∙◌, ap, subst}
 use Rattle.vault_types.specs.declared.Name.{Name}
 use Rattle.vault_types.specs.declared.Table.{Table}
-use Rattle.keeper_parts.specs.Parts.{HeldIfTold, with_strays}
-use Rattle.keeper_parts.proofs.Changing.{recipe_no_table, recipe_no_payload}
+use Rattle.state_laws.specs.Parts.{HeldIfTold, with_strays}
+use Rattle.state_laws.proofs.Changing.{recipe_no_table, recipe_no_payload}
 use Rattle.keeper_jobs.specs.Jobs.{names_of}
 use Rattle.keeper_jobs.proofs.NewNames.{same_held, more_held, spare_payload, spare_table}
 use Rattle.keeper_jobs.proofs.putting.put_sealed.Goals as goal

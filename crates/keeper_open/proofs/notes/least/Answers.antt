@@ -3,7 +3,7 @@ use Rattle.std.specs.Map.Iter.{deref}
 use Rattle.std.specs.Map.{values_of}
 use Rattle.std.proofs.lemmas.Map.Iter.{rest_more, rest_all}
 use Rattle.std.proofs.lemmas.List.{append_assoc}
-use Rattle.keeper_open.specs.declared.notes.Place.{Place}
+use Rattle.keeper_open.specs.declared.notes.RowPlace.{RowPlace}
 use Rattle.keeper_open.proofs.Noting.{least_more, whole_least, end_some, end_least}
 use Rattle.keeper_open.proofs.notes.least.Goals as goal
 
@@ -12,7 +12,7 @@ loop-place-preserved c =
     let inv = c.loop-place.invariant in
     let rest = rest_more deref c.loop-place.place-iterator c.next.new.self c.next.result c.in-Some.place c.in-Some.is c.next.ensures.steps in (
       inv.0 ++ c.in-Some.place.now ∷ [],
-      append_assoc inv.0 (c.in-Some.place.now ∷ []) c.next.new.self ∙ ap (λ (l : List Place). inv.0 ++ l) (sym rest) ∙ inv.1,
+      append_assoc inv.0 (c.in-Some.place.now ∷ []) c.next.new.self ∙ ap (λ (l : List RowPlace). inv.0 ++ l) (sym rest) ∙ inv.1,
       least_more c.loop-place.best inv.0 c.in-Some.place.now c.lesser_of.result inv.2 c.lesser_of.ensures,
     )
 

@@ -1,7 +1,7 @@
 use Rattle.std.proofs.Common.{◌≡◌, ◌∙◌, sym, ap, subst, arith, Option, ℕ, length-append, length, ◌+◌, [], ◌∷◌}
 use Rattle.vault_types.specs.Shelf.{Blobs}
-use Rattle.recipe_store.specs.Damages.{IsFloorIn, IsFloorDamage}
-use Rattle.keeper_open.specs.Damage.{IsDamageOf}
+use Rattle.vault_types.specs.BlobDamage.{IsFloorIn, IsFloorDamage}
+use Rattle.vault_types.specs.FirstDamage.{IsDamageOf}
 use Rattle.keeper_open.proofs.Gathering.{causes_again, floor_pushed, floor_damage}
 use Rattle.keeper_open.proofs.reading.read_floors.Goals as goal
 

@@ -1,7 +1,7 @@
 use Rattle.std.proofs.Common.{◌≡◌, ◌∙◌, sym, ap, subst, arith, Option, ℕ, ◌++◌, ◌∷◌, []}
 use Rattle.vault_types.specs.Shelf.{Blobs}
 use Rattle.vault_traits.specs.Shelf.{IsListing}
-use Rattle.keeper_open.specs.Damage.{ReadsRecipe}
+use Rattle.vault_types.specs.FirstDamage.{ReadsRecipe}
 use Rattle.keeper_open.specs.Reading.{IsVersionDamage, IsSetDamage, IsLastDue}
 use Rattle.keeper_open.proofs.Gathering.{causes_again, versions_more, version_damage, if_listed}
 use Rattle.keeper_open.proofs.reading.read_set.Goals as goal

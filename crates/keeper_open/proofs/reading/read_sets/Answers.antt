@@ -1,9 +1,9 @@
 use Rattle.std.proofs.Common.{◌≡◌, ◌∙◌, sym, ap, subst, arith, Option, ℕ, ◌++◌, ◌∷◌, [], List, get_or, refl}
 use Rattle.vault_types.specs.Shelf.{Blobs}
-use Rattle.recipe_store.specs.Damages.{IsFloorIn}
+use Rattle.vault_types.specs.BlobDamage.{IsFloorIn}
 use Rattle.vault_traits.specs.Shelf.{IsListing}
 use Rattle.std.specs.Prelude.{IfSome}
-use Rattle.keeper_open.specs.Damage.{IsDamageOf}
+use Rattle.vault_types.specs.FirstDamage.{IsDamageOf}
 use Rattle.keeper_open.specs.Reading.{IsSetDamage, IsSetRead}
 use Rattle.keeper_open.proofs.Gathering.{causes_again, floor_of_set, set_more_read}
 use Rattle.keeper_open.proofs.Damaging.{set_damage}

@@ -2,8 +2,8 @@ use Rattle.std.proofs.Common.{◌≡◌, ◌∙◌, sym, ap, subst, arith, Optio
 use Rattle.std.specs.Map.{lookup}
 use Rattle.vault_types.specs.declared.TableRow.{TableRow}
 use Rattle.vault_types.specs.Shelf.{Blobs}
-use Rattle.container_store.specs.Damages.{IsTableDamage}
-use Rattle.keeper_open.specs.Damage.{ReadsTable}
+use Rattle.vault_types.specs.BlobDamage.{IsTableDamage}
+use Rattle.vault_types.specs.FirstDamage.{ReadsTable}
 use Rattle.keeper_open.specs.Reading.{IsFirstTable, same_chunk, has_chunk, left_of}
 use Rattle.keeper_open.proofs.Gathering.{causes_again, table_more, table_damage}
 use Rattle.keeper_open.proofs.reading.read_tables.Goals as goal

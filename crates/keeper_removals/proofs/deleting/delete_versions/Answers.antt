@@ -3,7 +3,7 @@ use Rattle.std.specs.Prelude.{Contains}
 use Rattle.vault_types.specs.Delete.{delete}
 use Rattle.vault_types.specs.declared.Pending.TheVariants.{FailedFor}
 use Rattle.vault_types.specs.Events.{Core, IsNear, after_delete, after_refused, delete_change}
-use Rattle.keeper_parts.specs.Parts.{HeldIfTold}
+use Rattle.state_laws.specs.Parts.{HeldIfTold}
 use Rattle.keeper_catalog.specs.Catalog.{memo_of}
 use Rattle.keeper_removals.specs.Removals.{Removing}
 use Rattle.vault_traits.specs.Crash.{LeavesNowIfTold, LeavesOnlyIfTold}

@@ -1,6 +1,6 @@
 use Rattle.std.proofs.Common.{[], subst}
 use Rattle.keeper_catalog.specs.View.{View}
-use Rattle.script_laws.specs.Calls.{DeletesLine}
+use Rattle.store_model.specs.Calls.{DeletesLine}
 use Rattle.serial_delete.specs.Keeping.{IsStateOf, IsKnownStray}
 use Rattle.keeper_store.proofs.KeeperStoreStore.delete.Goals as goal
 

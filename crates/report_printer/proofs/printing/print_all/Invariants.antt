@@ -1,6 +1,6 @@
 use Rattle.std.proofs.Common.{◌≤◌, take, length}
 use Rattle.vault_traits.specs.Told.{Takes}
-use Rattle.run_laws.specs.World.{report_text}
+use Rattle.store_model.specs.World.{report_text}
 use Rattle.report_printer.proofs.printing.print_all.Given as goal
 
 abbrev pub invariant-loop-answer : goal.invariant-loop-answer

@@ -1,5 +1,5 @@
 use Rattle.std.proofs.Common.{◌≡◌, drop}
-use Rattle.run_laws.specs.World.{first_fault}
+use Rattle.store_model.specs.World.{first_fault}
 use Rattle.report_printer.proofs.status.first_fault.Given as goal
 
 abbrev pub invariant-loop-answer : goal.invariant-loop-answer

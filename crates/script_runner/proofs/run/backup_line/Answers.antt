@@ -1,6 +1,6 @@
 use Rattle.std.proofs.Common.{sym, ◌∙◌, ap, ℕ}
 use Rattle.std.specs.Prelude.{Err}
-use Rattle.script_laws.specs.Steps.{read_numbered}
+use Rattle.store_model.specs.Steps.{read_numbered}
 use Rattle.script_laws.proofs.WholeLines.{full_line, no_source_line, no_memory_line, backup_line_ok, backup_line_err}
 use Rattle.script_runner.proofs.run.backup_line.Goals as goal
 

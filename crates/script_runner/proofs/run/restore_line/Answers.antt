@@ -4,10 +4,10 @@ use Rattle.vault_traits.specs.Files.{IsEmptied, MayBeEmptied, IsWhatWasTaken, Ch
 use Rattle.vault_types.specs.declared.Fault.{Fault}
 use Rattle.vault_types.specs.declared.Answer.TheVariants.{Refused}
 use Rattle.vault_types.specs.declared.Line.TheVariants.{Restore}
-use Rattle.script_laws.specs.Steps.{write_numbered}
+use Rattle.store_model.specs.Steps.{write_numbered}
 use Rattle.script_laws.proofs.LineLemmas.{is_there}
 use Rattle.script_laws.proofs.WholeLines.{not_kept_line, no_sink_line, no_room_line, restore_line_ok, restore_line_err}
-use Rattle.script_laws.specs.Room.{NeedsRoom}
+use Rattle.store_model.specs.Room.{NeedsRoom}
 use Rattle.script_laws.proofs.Rooms.{done_needs, sink_needs}
 use Rattle.script_runner.proofs.run.restore_line.Goals as goal
 

@@ -1,6 +1,6 @@
 use Rattle.std.proofs.Common.{◌≡◌, ◌≤◌, length}
 use Rattle.std.specs.Prelude.{vec_len, vec_capacity}
-use Rattle.script_laws.specs.Room.{StepsWithin}
+use Rattle.store_model.specs.Room.{StepsWithin}
 use Rattle.script_laws.proofs.Chained.{Chained}
 use Rattle.script_runner.proofs.run.script_plain.Given as goal
 

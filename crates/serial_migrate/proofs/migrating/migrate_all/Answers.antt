@@ -3,7 +3,7 @@ use Rattle.vault_types.specs.declared.Fault.{Fault}
 use Rattle.vault_types.specs.State.{State}
 use Rattle.vault_types.specs.Events.{Change}
 use Rattle.serial_delete.specs.Keeping.{IsStateOf}
-use Rattle.serial_migrate.specs.Going.{Ended}
+use Rattle.serial_migrate.specs.Going.{HasEndedBy}
 use Rattle.serial_migrate.proofs.Ones.{later_of}
 use Rattle.serial_migrate.proofs.Steps.{InSet, enter_here, leave_here, next_here, stop_here, all_sets, err_again}
 use Rattle.serial_migrate.proofs.migrating.migrate_all.Goals.{then-branch, else-branch}
@@ -20,7 +20,7 @@ loop-keeper-init g c =
 
 pub returns-in_err-migrate_one-clause-err : goal.returns-in_err-migrate_one-clause-err
 returns-in_err-migrate_one-clause-err g c =
-    err_again (λ (f : Fault). (S : State) (other : Option Change) → IsStateOf c.args.keeper.now S other → Ended c.args.keeper.now c.migrate_one.new.keeper S other f) c.from_residual.result c.in_err-migrate_one.field-0.0 c.from_residual.ensures.1
+    err_again (λ (f : Fault). (S : State) (other : Option Change) → IsStateOf c.args.keeper.now S other → HasEndedBy c.args.keeper.now c.migrate_one.new.keeper S other f) c.from_residual.result c.in_err-migrate_one.field-0.0 c.from_residual.ensures.1
     (stop_here c.args.keeper.now c.loop-keeper.keeper c.loop-number.number c.migrate_one.new.keeper c.loop-keeper.version c.loop-keeper.recipes (λ K keeps. sym c.loop-keeper-test.true ∙ c.kept.ensures K keeps) c.loop-keeper.invariant.gone
     c.in_err-migrate_one.field-0.0 (omega (arith, c.loop-number-test.true)) c.in_err-migrate_one.ensures.err)
 

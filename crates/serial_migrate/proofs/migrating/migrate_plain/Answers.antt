@@ -1,7 +1,7 @@
 use Rattle.std.specs.Prelude.{Result}
 use Rattle.vault_types.specs.declared.Answer.{Answer}
 use Rattle.vault_types.specs.declared.Fault.{Fault}
-use Rattle.run_laws.specs.Migrating.{MigratesStore}
+use Rattle.store_model.specs.Migrating.{MigratesStore}
 use Rattle.serial_delete.specs.Keeping.{IsStateOf, IsKnownStray}
 use Rattle.serial_restore.proofs.Goings.{gone_as}
 use Rattle.serial_migrate.proofs.Stores.{all_done, all_ended}

@@ -2,7 +2,7 @@ use Rattle.std.proofs.Common.{◌≡◌, ◌∙◌, ap, refl, sym, map, ◌++◌
 use Rattle.vault_types.specs.Names.{named_chunk}
 use Rattle.vault_types.specs.Cuts.{settled}
 use Rattle.backup_pass.specs.Passing.{bytes_of_all}
-use Rattle.stream_cutter.specs.Cutters.{IsCuttable}
+use Rattle.vault_types.specs.JobRanges.{IsCuttable}
 use Rattle.vault_types.proofs.FeedLemmas.{cut_more}
 use Rattle.stream_cutter.proofs.Sizes.{settled_chunks, stable}
 use Rattle.backup_pass.proofs.Feeding.{fed, fault_is}

@@ -7,7 +7,7 @@ use Rattle.vault_types.specs.Fill.{fill}
 use Rattle.vault_types.specs.Stages.{is_chunk}
 use Rattle.container_fill.specs.Filling.{IsFilledBy}
 use Rattle.backup_pass.specs.Passing.{bytes_of_all, IsPassFault, answers_in}
-use Rattle.stream_cutter.specs.Cutters.{IsCuttable}
+use Rattle.vault_types.specs.JobRanges.{IsCuttable}
 use Rattle.stream_cutter.proofs.Sizes.{last_chunks}
 use Rattle.backup_pass.proofs.Feeding.{fault_is, all_named, few_is}
 use Rattle.backup_pass.proofs.pass.Pass.finish.Goals as goal

@@ -9,7 +9,7 @@ use Rattle.keeper_catalog.specs.View.{View, Keeps}
 use Rattle.keeper_jobs.specs.Jobs.{Sees}
 use Rattle.keeper_jobs.proofs.Seeing.{info_is}
 use Rattle.vault_types.specs.Shelf.{blob_at, recipe_name}
-use Rattle.keeper_parts.proofs.Changing.{latest_low, version_high}
+use Rattle.state_laws.proofs.Changing.{latest_low, version_high}
 use Rattle.keeper_core.proofs.Keeping.{sees_of, begun, sets_count, next_is}
 use Rattle.keeper_core.proofs.keeper.Keeper.begin.Goals as goal
 

@@ -13,9 +13,9 @@ use Rattle.keeper_catalog.specs.View.{View, Keeps}
 use Rattle.keeper_jobs.specs.Jobs.{Sees}
 use Rattle.keeper_jobs.proofs.Seeing.{alone, not_failed}
 use Rattle.keeper_catalog.specs.Catalog.{memo_of}
-use Rattle.keeper_parts.specs.Recipes.{KeepsRecipes}
-use Rattle.keeper_parts.proofs.Changing.{version_high}
-use Rattle.deletion_laws.proofs.Shrinking as shrinking
+use Rattle.vault_types.specs.RecipeForms.{KeepsRecipes}
+use Rattle.state_laws.proofs.Changing.{version_high}
+use Rattle.state_laws.proofs.Shrinking as shrinking
 use Rattle.keeper_removals.proofs.Cleaned.{always}
 use Rattle.keeper_core.specs.Stands.{index_of, job_of}
 use Rattle.keeper_core.specs.Calls.{IsStill}

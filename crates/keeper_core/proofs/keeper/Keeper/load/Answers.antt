@@ -4,10 +4,10 @@ use Rattle.std.specs.Global.{Vec}
 use Rattle.std.specs.Option.{option_copied}
 use Rattle.vault_types.specs.declared.Table.{Table}
 use Rattle.vault_types.specs.Tables.{Container, IsTable}
-use Rattle.vault_types.specs.Shelf.{payload_name}
+use Rattle.vault_types.specs.Shelf.{payload_name, Has}
 use Rattle.vault_types.specs.Events.{Core}
-use Rattle.blob_parts.specs.Causes.{Has, HasCauses}
-use Rattle.container_store.specs.Damages.{IsLoaded, IsPayloadOf, IsPayloadDamage}
+use Rattle.vault_traits.specs.Causes.{HasCauses}
+use Rattle.vault_types.specs.BlobDamage.{IsLoaded, IsPayloadOf, IsPayloadDamage}
 use Rattle.keeper_catalog.specs.View.{View, Keeps}
 use Rattle.commit_laws.proofs.Listing.{some_same, none_some}
 use Rattle.keeper_core.specs.Calls.{Lists}

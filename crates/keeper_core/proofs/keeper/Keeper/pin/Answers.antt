@@ -1,4 +1,4 @@
-use Rattle.std.proofs.Common.{◌++◌, ◌∷◌, [], ℕ, List, map, refl, sym, ◌∙◌, ap, subst}
+use Rattle.std.proofs.Common.{◌++◌, ◌∷◌, [], ℕ, List, map, refl, sym, ◌∙◌, ap, subst, Some}
 use Rattle.std.specs.Prelude.{Err, IsSome, IsSomeAnd, slice_get}
 use Rattle.std.specs.List.{AllByRecursion}
 use Rattle.vault_types.specs.declared.Fault.{Fault}
@@ -6,9 +6,8 @@ use Rattle.vault_types.specs.declared.Row.{Row}
 use Rattle.vault_types.specs.Lists.{has, set_of}
 use Rattle.commit_laws.proofs.Pinned.{filter_was}
 use Rattle.vault_types.specs.Events.{Core}
-use Rattle.std.proofs.Common.{Some}
-use Rattle.vault_types.specs.Shelf.{recipe_name}
-use Rattle.blob_parts.specs.Causes.{Has, IsCause, HasCauses}
+use Rattle.vault_types.specs.Shelf.{recipe_name, Has}
+use Rattle.vault_traits.specs.Causes.{IsCause, HasCauses}
 use Rattle.row_spots.specs.declared.Unplaced.{Unplaced}
 use Rattle.row_spots.specs.Spots.{spot_in, HasPlace}
 use Rattle.keeper_catalog.specs.Catalog.{memo_of}

@@ -3,9 +3,8 @@ use Rattle.std.specs.Prelude.{IsSome}
 use Rattle.vault_types.specs.declared.Recipe.{Recipe}
 use Rattle.vault_types.specs.State.{KeptVersion, length_of, version_of}
 use Rattle.vault_types.specs.Blobs.{SpellsRecipe}
-use Rattle.vault_types.specs.Shelf.{recipe_name}
+use Rattle.vault_types.specs.Shelf.{recipe_name, Has}
 use Rattle.vault_types.specs.Events.{Core}
-use Rattle.blob_parts.specs.Causes.{Has}
 use Rattle.commit_laws.specs.Laws.{SaysVersion}
 use Rattle.keeper_catalog.specs.View.{View, Keeps}
 use Rattle.keeper_core.specs.Calls.{IsWholeOf}

@@ -8,9 +8,9 @@ use Rattle.vault_types.specs.Shelf.{Blobs, Stands, recipe_name, blob_at}
 use Rattle.vault_types.specs.Events.{Core, IsNear, Held, after_mend, after_refused}
 use Rattle.vault_traits.specs.Crash.{History, LeavesNowIfTold, LeavesOnlyIfTold}
 use Rattle.vault_traits.proofs.Moments.{then, ends, more}
-use Rattle.recipe_store.specs.Damages.{IsRecipeDamage}
-use Rattle.keeper_parts.specs.Parts.{without_other}
-use Rattle.keeper_parts.proofs.Changing.{told_same, told_more, near_alone, version_high}
+use Rattle.vault_types.specs.BlobDamage.{IsRecipeDamage}
+use Rattle.state_laws.specs.Parts.{without_other}
+use Rattle.state_laws.proofs.Changing.{told_same, told_more, near_alone, version_high}
 use Rattle.keeper_parts.proofs.Telling.{tells_same}
 use Rattle.keeper_catalog.specs.declared.SetInfo.{SetInfo}
 use Rattle.keeper_catalog.specs.View.{View, Keeps}

@@ -1,4 +1,4 @@
-use Rattle.keeper_parts.proofs.Changing.{told_same}
+use Rattle.state_laws.proofs.Changing.{told_same}
 use Rattle.vault_types.specs.Events.{Held}
 use Rattle.keeper_catalog.specs.View.{opened_core}
 use Rattle.keeper_core.proofs.Openings.{opened_keeps, each_keeps}

@@ -23,10 +23,8 @@ fn front(seed: u64, version: u32) -> Option<[u8; 2]> {
 }
 
 fn first_byte(seed: u64, version: u32) -> Option<u8> {
-    match front(seed, version) {
-        Some([first, _]) => Some(first),
-        None => None,
-    }
+    let bytes = front(seed, version)?;
+    Some(bytes[0])
 }
 
 #[test]

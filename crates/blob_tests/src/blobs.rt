@@ -1,4 +1,6 @@
 // Numbers, sums and rules, with values from outside.
+ghost use Rattle.vault_types.specs.Names.{IsFp};
+
 use blob_parts::{
     Unread, body_of, fp_at, has_rules, ids_at, push_sparse, push_sum, push_u32, push_u64, sum_of,
     tag_at, u32_at, u64_at,
@@ -170,7 +172,9 @@ fn rules_tell(alloc: Global, cases: &[Case]) -> Result<bool, Fail> {
 }
 
 // Whether a version without rows may have this sum.
-fn none_has_sum(alloc: Global, sum: [u8; 20]) -> Result<bool, Fail> {
+fn none_has_sum(alloc: Global, sum: Fp) -> Result<bool, Fail>
+    requires { IsFp sum }
+{
     let recipe = Recipe {
         set: 0,
         version: 1,
@@ -178,7 +182,7 @@ fn none_has_sum(alloc: Global, sum: [u8; 20]) -> Result<bool, Fail> {
         length: 0,
         rows: ListOf::from_vec(Vec::new(alloc)),
         sparse: ListOf::from_vec(Vec::new(alloc)),
-        whole: Some(Fp(sum)),
+        whole: Some(sum),
     };
     Ok(has_rules(alloc, &recipe)?)
 }
@@ -186,7 +190,7 @@ fn none_has_sum(alloc: Global, sum: [u8; 20]) -> Result<bool, Fail> {
 #[test]
 fn a_recipe_may_break_its_rules_in_many_ways(rt: HostRuntime) -> Result<(), Fail> {
     assert!(rt; rules_tell(rt.alloc(), CASES)?);
-    assert!(rt; none_has_sum(rt.alloc(), NONE)?);
-    assert!(rt; !none_has_sum(rt.alloc(), ABC)?);
+    assert!(rt; none_has_sum(rt.alloc(), Fp(NONE))?);
+    assert!(rt; !none_has_sum(rt.alloc(), Fp(ABC))?);
     Ok(())
 }

@@ -100,9 +100,20 @@ fn put_version<S: Shelf>(alloc: Global, shelf: &mut S, one: &OneRow) -> Result<(
 }
 
 fn put_bytes<S: Shelf>(alloc: Global, shelf: &mut S, name: Name, bytes: &[u8]) -> Result<(), Fail> {
-    if name.kind == Kind::Floor || shelf.put(alloc, name, bytes).is_err() {
-        return Err(Fail::from("the bytes are put"));
+    if name.kind == Kind::Floor {
+        return Err(Fail::from("a floor is put by its own call"));
     }
+    match shelf.put(alloc, name, bytes) {
+        Ok(()) => Ok(()),
+        Err(_) => Err(Fail::from("the bytes are put")),
+    }
+}
+
+fn put_floor_of<S: Shelf>(shelf: &mut S, set: Set, floor: Version) -> Result<(), Fail> {
+    if floor < 1 || floor > 4_294_967_294 {
+        return Err(Fail::from("the floor is a version"));
+    }
+    put_floor(shelf, set, floor)?;
     Ok(())
 }
 
@@ -110,7 +121,7 @@ fn done<S: Shelf>(alloc: Global, shelf: &mut S, step: &Step) -> Result<(), Fail>
     match step {
         Step::Version(one) => put_version(alloc, shelf, one)?,
         Step::Chunk(id, chunk) => put(alloc, shelf, &seal(alloc, *id, chunk)?)?,
-        Step::Floor(set, floor) => put_floor(shelf, *set, *floor)?,
+        Step::Floor(set, floor) => put_floor_of(shelf, *set, *floor)?,
         Step::Bytes(kind, number, bytes) => put_bytes(alloc, shelf, name(*kind, *number), bytes)?,
         Step::Remove(set, version) => remove_recipe(shelf, *set, *version)?,
     }

@@ -1,6 +1,6 @@
 // Rows of scripts.
 use crate::running::{
-    FIRST, PAYLOAD, QUIET, Row, STANDARD, TEXT, as_said, holds, lists, rows_are, run_with,
+    FIRST, PAYLOAD, QUIET, Row, STANDARD, Seen, TEXT, as_said, holds, lists, rows_are, run_with,
 };
 use std::alloc::Global;
 use std::test::Fail;
@@ -369,12 +369,17 @@ fn left_by(alloc: Global, call: u64, keep: bool) -> Result<Left, Fail> {
         source,
         1_048_576,
     )?;
-    let out = seen.out.as_slice();
-    let shelf = seen.shelf.into_inner();
+    let Seen {
+        status,
+        out,
+        shelf,
+        ..
+    } = seen;
+    let shelf = shelf.into_inner();
     Ok((
-        seen.status,
-        lines_of(out),
-        out.starts_with(ONE_STORED),
+        status,
+        lines_of(out.as_slice()),
+        out.as_slice().starts_with(ONE_STORED),
         shelf.names(alloc)?.as_slice().len(),
         holds(&shelf, SECOND_PAYLOAD, b"bbbb"),
     ))

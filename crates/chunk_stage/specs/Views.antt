@@ -1,0 +1,16 @@
+-- What contracts see of the chunking stage: its settings, the end that it takes from, its lanes,
+-- the last item that it took, if it came, and its holder.
+use Rattle.std.specs.Prelude.{ℕ, List, Option}
+use Rattle.stage_queue.specs.Ends.{Sender, Receiver}
+use Rattle.stop_word.specs.Holders.{Held}
+use Rattle.vault_types.specs.declared.Cutting.{Cutting}
+use Rattle.vault_types.specs.declared.Flow.{Flow}
+use Rattle.stage_flows.specs.declared.Last.{Last}
+
+pub record Chunking : Type 0 where
+  pub cutting : Cutting
+  pub limit : ℕ
+  pub from : Receiver (Flow (List ℕ))
+  pub lanes : List (Sender (Flow (List ℕ)))
+  pub over : Option Last
+  pub holder : Held

@@ -1,0 +1,19 @@
+-- What contracts see of the deciding stage: its settings, the index that it was lent, the lanes
+-- that it takes from, its end, the last item that it took, if it came, and its holder.
+use Rattle.std.specs.Prelude.{ℕ, List, Option}
+use Rattle.stage_queue.specs.Ends.{Sender, Receiver}
+use Rattle.stop_word.specs.Holders.{Held}
+use Rattle.vault_types.specs.declared.Flow.{Flow}
+use Rattle.vault_types.specs.declared.Fp.{Fp}
+use Rattle.vault_types.specs.Decide.{Rules}
+use Rattle.rewrite_stage.specs.declared.Decided.{Decided}
+use Rattle.stage_flows.specs.declared.Last.{Last}
+
+pub record Deciding : Type 0 where
+  pub limit : ℕ
+  pub rules : Rules
+  pub index : List (Fp × List ℕ)
+  pub lanes : List (Receiver (Flow (List ℕ)))
+  pub outs : List (Sender (Flow Decided))
+  pub over : Option Last
+  pub holder : Held

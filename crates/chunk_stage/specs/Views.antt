@@ -1,6 +1,6 @@
--- What contracts see of the chunking stage: its settings, the end that it takes from, its lanes,
--- the last item that it took, if it came, and its holder.
-use Rattle.std.specs.Prelude.{ℕ, List, Option}
+-- What contracts see of the chunking stage: its settings, the end that it takes from, its lanes, the
+-- last item that it took, if it came, whether all that it has to send so far was sent, and its holder.
+use Rattle.std.specs.Prelude.{ℕ, Bool, List, Option}
 use Rattle.stage_queue.specs.Ends.{Sender, Receiver}
 use Rattle.stop_word.specs.Holders.{Held}
 use Rattle.vault_types.specs.declared.Cutting.{Cutting}
@@ -13,4 +13,5 @@ pub record Chunking : Type 0 where
   pub from : Receiver (Flow (List ℕ))
   pub lanes : List (Sender (Flow (List ℕ)))
   pub over : Option Last
+  pub through : Bool
   pub holder : Held

@@ -1,8 +1,9 @@
 // The stage with its lines.
-ghost use Rattle.std.specs.Prelude.{◌≡◌, ◌+◌, ℕ, List, [], ◌∷◌, ◌++◌, length, Some, None, All, ◌<◌, ◌||◌, false};
+ghost use Rattle.std.specs.Prelude.{◌≡◌, ◌+◌, ℕ, List, [], ◌∷◌, ◌++◌, length, Some, None, All, ◌<◌, ◌||◌, ◌&&◌, true, false};
 ghost use Rattle.std.specs.Option.{is_some};
 ghost use Rattle.vault_types.specs.declared.Cutting.{Cutting as Way};
-ghost use Rattle.stage_lanes.specs.Steps.{lines_of};
+ghost use Rattle.stage_lanes.specs.Steps.{lines_of, all_sent};
+ghost use Rattle.stage_flows.specs.Turns.{Tells};
 ghost use Rattle.vault_types.specs.JobRanges.{IsCuttable};
 ghost use Rattle.stage_rules.specs.Chunking.{read_of, last_of};
 ghost use Rattle.chunk_stage.specs.Stage.{HasChunked};
@@ -54,7 +55,7 @@ fn advance(
     requires { (c : Way) × (reads : List (List ℕ)) × HasChunked c limit reads None cutter.old count.old dealer.old holder.old.raised × (dealer.old.ready ≡ []) }
     ensures chunked { (c : Way) (reads : List (List ℕ)) → HasChunked c limit reads None cutter.old count.old dealer.old holder.old.raised
         → HasChunked c limit (reads ++ read_of item) (last_of item) cutter.new count.new dealer.new holder.new.raised }
-    ensures lines { lines_of dealer.new.lanes.items ≡ lines_of dealer.old.lanes.items }
+    ensures lanes { dealer.new.lanes.items ≡ dealer.old.lanes.items }
     ensures holder { (holder.new.family ≡ holder.old.family) × (holder.new.number ≡ holder.old.number) × (holder.new.saw ≡ holder.old.saw) }
 {
     let Some(open) = cutter.take() else {
@@ -68,7 +69,8 @@ fn advance(
 }
 
 /// Cuts the bytes that it takes into chunks, at most so many, and deals them to its lanes in turn.
-/// Contracts see its settings, its ends, the last item that it took, and its holder.
+/// Contracts see its settings, its ends, the last item that it took, whether all that it has to send so
+/// far was sent, and its holder.
 #[derive(Drop)]
 pub struct ChunkStage {
     alloc: Global,
@@ -85,10 +87,11 @@ pub struct ChunkStage {
 impl Model for ChunkStage {
     ghost use Rattle.chunk_stage.specs.Views.{Chunking};
     ghost use Rattle.chunk_stage.specs.Stage.{HasTaken};
+    ghost use Rattle.stage_lanes.specs.Dealing.{is_through};
 
     ghost Value = { Chunking };
 
-    ghost view = { λ s. record { cutting = s.cutting; limit = s.limit; from = s.from; lanes = s.dealer.lanes.items; over = s.over; holder = s.holder } };
+    ghost view = { λ s. record { cutting = s.cutting; limit = s.limit; from = s.from; lanes = s.dealer.lanes.items; over = s.over; through = is_through s.dealer; holder = s.holder } };
 
     ghost invariant = { λ s. HasTaken s.cutting s.limit s.from.taken s.over s.cutter s.count s.dealer s.holder.raised };
 }
@@ -110,7 +113,7 @@ impl ChunkStage {
         requires some { 0 < length lanes.items }
         requires sent { All (λ t. t.sent ≡ []) lanes.items }
         requires raised { holder.raised ≡ false }
-        ensures { result ≡ record { cutting = cutting; limit = limit; from = from; lanes = lanes.items; over = None; holder = holder } }
+        ensures { result ≡ record { cutting = cutting; limit = limit; from = from; lanes = lanes.items; over = None; through = true; holder = holder } }
     {
         let dealer = Dealer::new(alloc, lanes);
         ChunkStage {
@@ -147,7 +150,7 @@ impl Stage for ChunkStage {
 
     ghost same = { λ a b. (a.cutting ≡ b.cutting) × (a.limit ≡ b.limit) × (a.from.line ≡ b.from.line) × (lines_of a.lanes ≡ lines_of b.lanes) × (a.holder.family ≡ b.holder.family) × (a.holder.number ≡ b.holder.number) × (a.holder.saw ≡ b.holder.saw) };
 
-    ghost turned = { λ a turn b. Unit {0} };
+    ghost turned = { λ a turn b. Tells turn (length a.from.taken + all_sent a.lanes) (length b.from.taken + all_sent b.lanes) (is_some b.over && b.through) };
 
     fn turn<R: Wait>(&mut self, rt: &R) -> Turn {
         match self.dealer.turn(rt) {

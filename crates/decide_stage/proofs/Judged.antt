@@ -1,5 +1,5 @@
 -- What one item comes to.
-use Rattle.std.proofs.Common.{◌≡◌, true≢false, ◌⊎◌, inl, inr, ⊎_elim, ℕ, ◌+◌, ◌<◌, ◌≤◌, ◌||◌, Bool, true, false, List, [], ◌∷◌, ◌++◌, length, map, refl, sym, ap, ◌∙◌, subst, append_assoc, append-nil, Option, Some, None, arith, length-append}
+use Rattle.std.proofs.Common.{◌≡◌, true≢false, ◌⊎◌, inl, inr, ⊎_elim, ℕ, ◌<◌, ◌||◌, Bool, true, false, List, [], ◌∷◌, ◌++◌, length, map, refl, sym, ap, ◌∙◌, subst, append_assoc, append-nil, Option, Some, None, arith, length-append}
 use Rattle.std.specs.List.{zip}
 use Rattle.std.specs.Prelude.{MatchOption, IsSome, Result, Ok, Err, MatchResult, slice_get, nat_lt, cond}
 use Rattle.std.specs.Option.{is_some}

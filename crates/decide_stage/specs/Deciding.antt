@@ -1,19 +1,17 @@
 -- What the deciding stage keeps.
-use Rattle.std.specs.Prelude.{◌≡◌, ◌≤◌, ◌<◌, ◌⊎◌, ℕ, Bool, true, false, List, [], ◌∷◌, ◌++◌, map, length, Option, None, Some, Result, Ok, Err, IsSome, slice_get}
+use Rattle.std.specs.Prelude.{◌≡◌, ◌≤◌, ℕ, Bool, true, false, List, [], ◌∷◌, map, length, Option, None, Some, Result, Ok, Err, IsSome, slice_get}
 use Rattle.std.specs.Option.{is_some}
 use Rattle.vault_types.specs.declared.Fault.{Fault}
-use Rattle.vault_types.specs.declared.Fault.TheVariants as fault
 use Rattle.vault_types.specs.declared.Flow.{Flow}
 use Rattle.vault_types.specs.declared.Fp.{Fp}
 use Rattle.vault_types.specs.declared.How.{How}
 use Rattle.vault_types.specs.Names.{NamedChunk, named_chunk}
 use Rattle.vault_types.specs.Decide.{Rules}
-use Rattle.vault_types.specs.Stages.{decided_parts, IsFront}
+use Rattle.vault_types.specs.Stages.{IsFront}
 use Rattle.fp_index.specs.Index.{found_in}
 use Rattle.rewrite_stage.specs.declared.Decided.{Decided}
 use Rattle.stage_queue.specs.Ends.{Sender, Receiver}
 use Rattle.stage_flows.specs.declared.Last.{Last}
-use Rattle.stage_flows.specs.declared.Last.TheVariants as last
 use Rattle.stage_flows.specs.Runs.{run}
 use Rattle.stage_lanes.specs.Lanes.{AllAt, lane_parts, picked_from}
 use Rattle.stage_lanes.specs.Dealing.{HasDealt, HasPicked}

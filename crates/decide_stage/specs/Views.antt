@@ -1,6 +1,7 @@
--- What contracts see of the deciding stage: its settings, the index that it was lent, the lanes
--- that it takes from, its end, the last item that it took, if it came, and its holder.
-use Rattle.std.specs.Prelude.{ℕ, List, Option}
+-- What contracts see of the deciding stage: its settings, the index that it was lent, the lanes that it
+-- takes from, its end, the last item that it took, if it came, whether all that it has to send so far
+-- was sent, and its holder.
+use Rattle.std.specs.Prelude.{ℕ, Bool, List, Option}
 use Rattle.stage_queue.specs.Ends.{Sender, Receiver}
 use Rattle.stop_word.specs.Holders.{Held}
 use Rattle.vault_types.specs.declared.Flow.{Flow}
@@ -16,4 +17,5 @@ pub record Deciding : Type 0 where
   pub lanes : List (Receiver (Flow (List ℕ)))
   pub outs : List (Sender (Flow Decided))
   pub over : Option Last
+  pub through : Bool
   pub holder : Held

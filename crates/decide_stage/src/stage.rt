@@ -1,10 +1,11 @@
 // The stage with its lines.
-ghost use Rattle.std.specs.Prelude.{◌≡◌, ◌≤◌, ◌||◌, ℕ, List, [], ◌++◌, None, true, false, MatchOption};
+ghost use Rattle.std.specs.Prelude.{◌≡◌, ◌≤◌, ◌+◌, ◌||◌, ◌&&◌, ℕ, List, [], ◌++◌, None, true, false, MatchOption};
 ghost use Rattle.std.specs.Option.{is_some};
 ghost use Rattle.vault_types.specs.declared.Fp.{Fp as Print};
 ghost use Rattle.vault_types.specs.Names.{NamedChunk};
 ghost use Rattle.vault_types.specs.Decide.{Rules};
-ghost use Rattle.stage_lanes.specs.Steps.{lines_of, ends_of};
+ghost use Rattle.stage_lanes.specs.Steps.{lines_of, ends_of, all_sent, all_taken};
+ghost use Rattle.stage_flows.specs.Turns.{Tells};
 ghost use Rattle.stage_rules.specs.Chunking.{IsOwnFault};
 ghost use Rattle.segment_gather.specs.Gathering.{index_of, answers_of};
 ghost use Rattle.vault_types.specs.declared.How.{How as Hows};
@@ -89,7 +90,7 @@ fn advance(
     requires { (index : List (Print × List ℕ)) × (r : Rules) × (chunks : List NamedChunk) × HasJudged index r limit chunks None goes.old gatherer.old count.old dealer.old holder.old.raised × (dealer.old.ready ≡ []) }
     ensures judged { (index : List (Print × List ℕ)) (r : Rules) (chunks : List NamedChunk) → HasJudged index r limit chunks None goes.old gatherer.old count.old dealer.old holder.old.raised
         → HasJudged index r limit (chunks ++ chunk_of item) (last_in item) goes.new gatherer.new count.new dealer.new holder.new.raised }
-    ensures lines { lines_of dealer.new.lanes.items ≡ lines_of dealer.old.lanes.items }
+    ensures lanes { dealer.new.lanes.items ≡ dealer.old.lanes.items }
     ensures index { index_of gatherer.new ≡ index_of gatherer.old }
     ensures holder { (holder.new.family ≡ holder.old.family) × (holder.new.number ≡ holder.old.number) × (holder.new.saw ≡ holder.old.saw) }
 {
@@ -103,9 +104,9 @@ fn advance(
     dealer.give(parts, last);
 }
 
-/// Takes named chunks from its lanes in turn, decides for each segment that is complete, and sends
-/// the decisions. Contracts see its settings, the index that it was lent, its ends, the last item
-/// that it took, and its holder.
+/// Takes named chunks from its lanes in turn, decides for each segment that is complete, and sends the
+/// decisions. Contracts see its settings, the index that it was lent, its ends, the last item that it
+/// took, whether all that it has to send so far was sent, and its holder.
 #[derive(Drop)]
 pub struct DecideStage {
     alloc: Global,
@@ -125,11 +126,12 @@ pub struct DecideStage {
 impl Model for DecideStage {
     ghost use Rattle.segment_gather.specs.Gathering.{index_of};
     ghost use Rattle.decide_stage.specs.Views.{Deciding};
+    ghost use Rattle.stage_lanes.specs.Dealing.{is_through};
     ghost use Rattle.decide_stage.specs.Deciding.{HasTaken};
 
     ghost Value = { Deciding };
 
-    ghost view = { λ s. record { limit = s.limit; rules = record { sparse = s.sparse.items; config = s.config }; index = index_of s.gatherer; lanes = s.picker.lanes.items; outs = s.dealer.lanes.items; over = s.picker.last; holder = s.holder } };
+    ghost view = { λ s. record { limit = s.limit; rules = record { sparse = s.sparse.items; config = s.config }; index = index_of s.gatherer; lanes = s.picker.lanes.items; outs = s.dealer.lanes.items; over = s.picker.last; through = is_through s.dealer; holder = s.holder } };
 
     ghost invariant = { λ s. HasTaken (record { sparse = s.sparse.items; config = s.config }) s.limit s.picker s.goes s.gatherer s.count s.dealer s.holder.raised };
 }
@@ -157,7 +159,7 @@ impl DecideStage {
         requires taken { All (λ r. r.taken ≡ []) lanes.items }
         requires sent { All (λ t. t.sent ≡ []) outs.items }
         requires raised { holder.raised ≡ false }
-        ensures { result ≡ record { limit = limit; rules = record { sparse = sparse.items; config = config }; index = index; lanes = lanes.items; outs = outs.items; over = None; holder = holder } }
+        ensures { result ≡ record { limit = limit; rules = record { sparse = sparse.items; config = config }; index = index; lanes = lanes.items; outs = outs.items; over = None; through = true; holder = holder } }
     {
         let gatherer = Gatherer::new(alloc, index, sparse, config);
         let picker = Picker::new(lanes);
@@ -198,7 +200,7 @@ impl Stage for DecideStage {
 
     ghost same = { λ a b. (a.limit ≡ b.limit) × (a.rules ≡ b.rules) × (a.index ≡ b.index) × (ends_of a.lanes ≡ ends_of b.lanes) × (lines_of a.outs ≡ lines_of b.outs) × (a.holder.family ≡ b.holder.family) × (a.holder.number ≡ b.holder.number) × (a.holder.saw ≡ b.holder.saw) };
 
-    ghost turned = { λ a turn b. Unit {0} };
+    ghost turned = { λ a turn b. Tells turn (all_taken a.lanes + all_sent a.outs) (all_taken b.lanes + all_sent b.outs) (is_some b.over && b.through) };
 
     fn turn<R: Wait>(&mut self, rt: &R) -> Turn {
         match self.dealer.turn(rt) {

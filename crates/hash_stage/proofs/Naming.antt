@@ -1,16 +1,16 @@
 -- One item more is named.
-use Rattle.std.proofs.Common.{◌≡◌, ℕ, Bool, true, false, List, [], ◌∷◌, ◌++◌, refl, sym, ap, ◌∙◌, subst, append_assoc, append-nil, Option, Some, None}
-use Rattle.std.specs.Prelude.{filter, map, cond}
+use Rattle.std.proofs.Common.{◌≡◌, ℕ, Bool, true, false, List, [], ◌∷◌, ◌++◌, refl, sym, ap, ◌∙◌, append-nil, Option, Some, None}
+use Rattle.std.specs.Prelude.{filter, cond}
 use Rattle.std.proofs.lemmas.List.Elements.{filter-append}
 use Rattle.vault_types.specs.declared.Flow.{Flow}
-use Rattle.vault_types.specs.declared.Flow.TheVariants.{Part, End, Failed, Stopped}
-use Rattle.vault_types.specs.Names.{NamedChunk, named_chunk}
+use Rattle.vault_types.specs.declared.Flow.TheVariants.{Part}
+use Rattle.vault_types.specs.Names.{named_chunk}
 use Rattle.vault_types.specs.Stages.{is_chunk, as_parts, named_items}
 use Rattle.stage_flows.specs.declared.Last.{Last}
 use Rattle.stage_flows.specs.declared.Last.TheVariants as last
-use Rattle.stage_flows.specs.Runs.{item_of, closing, run}
+use Rattle.stage_flows.specs.Runs.{item_of, run}
 use Rattle.stage_flows.proofs.Running.{run-part, run-last}
-use Rattle.hash_stage.specs.Hashing.{IsHashed, with_name, with_names}
+use Rattle.hash_stage.specs.Hashing.{IsHashed, with_names}
 
 -- the chunk of one part, if it is one
 one : (sent : List (List ℕ)) (x : List ℕ) → run sent None ++ as_parts (filter is_chunk (x ∷ [])) ≡ run (sent ++ filter is_chunk (x ∷ [])) None

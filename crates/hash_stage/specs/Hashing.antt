@@ -1,5 +1,5 @@
 -- What the naming stage keeps: it has sent, or holds ready, each chunk of what it took.
-use Rattle.std.specs.Prelude.{◌≡◌, ℕ, List, [], ◌∷◌, filter, Option, map}
+use Rattle.std.specs.Prelude.{◌≡◌, ℕ, List, filter, Option, map}
 use Rattle.stage_queue.specs.Ends.{Sender, Receiver}
 use Rattle.stop_word.specs.Holders.{Held}
 use Rattle.vault_types.specs.declared.Flow.{Flow}

@@ -1,5 +1,5 @@
 -- Lanes read backwards.
-use Rattle.std.proofs.Common.{◌≡◌, ◌≢◌, ◌⊎◌, inl, inr, ⊎_elim, ℕ, zero, suc, ◌+◌, ◌<◌, ◌≤◌, ◌==◌, Bool, true, false, cond, List, [], ◌∷◌, ◌++◌, length, take, refl, sym, ap, ◌∙◌, subst, append_assoc, append-nil, Option, Some, None, arith}
+use Rattle.std.proofs.Common.{◌≡◌, inl, inr, ⊎_elim, ℕ, ◌<◌, ◌≤◌, ◌==◌, Bool, true, false, cond, List, [], ◌∷◌, ◌++◌, length, refl, sym, ap, ◌∙◌, subst, append_assoc, append-nil, Option, None, arith}
 use Rattle.std.specs.Prelude.{filter, if◌then◌else◌}
 use Rattle.std.specs.List.{AllByRecursion}
 use Rattle.std.proofs.lemmas.Bool.Decides.{nat_tests}
@@ -8,8 +8,7 @@ use Rattle.vault_types.specs.Stages.{as_parts, IsFront, is_chunk}
 use Rattle.stage_flows.specs.declared.Last.{Last}
 use Rattle.stage_flows.specs.Runs.{closing, run, Begins}
 use Rattle.stage_flows.proofs.Running.{run-one, run-front, run-begins}
-use Rattle.hash_stage.specs.Hashing.{IsHashed}
-use Rattle.stage_lanes.specs.Lanes.{after, at_lane, lane_parts, lane_after, picked_from}
+use Rattle.stage_lanes.specs.Lanes.{after, lane_parts, lane_after, picked_from}
 use Rattle.stage_lanes.proofs.Fronts.{lanes_front, lanes_whole, after-below}
 use Rattle.pipe_laws.specs.Pipe.{LaneBack}
 

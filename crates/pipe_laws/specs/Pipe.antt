@@ -1,5 +1,5 @@
 -- A pipeline of four stages when all its ends are back, and what that tells of what came out.
-use Rattle.std.specs.Prelude.{◌≡◌, ◌⊎◌, ◌<◌, ◌≤◌, ℕ, Bool, true, List, map, length, Option, Some, None}
+use Rattle.std.specs.Prelude.{◌≡◌, ◌⊎◌, ◌<◌, ◌≤◌, ℕ, Bool, List, map, length, Option, Some, None}
 use Rattle.std.specs.List.{concat}
 use Rattle.vault_types.specs.declared.Cutting.{Cutting}
 use Rattle.vault_types.specs.declared.Fault.{Fault}

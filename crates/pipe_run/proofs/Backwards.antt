@@ -1,5 +1,5 @@
 -- A job's ends as a pipeline that is read backwards.
-use Rattle.std.proofs.Common.{◌≡◌, ◌⊎◌, inl, inr, ⊎_elim, ℕ, zero, suc, ◌+◌, ◌<◌, ◌||◌, Bool, true, false, true≢false, List, [], ◌∷◌, ◌++◌, length, map, refl, sym, ap, ◌∙◌, subst, append_assoc, append-nil, Option, Some, None, arith}
+use Rattle.std.proofs.Common.{◌≡◌, ◌⊎◌, inl, inr, ⊎_elim, ℕ, zero, suc, ◌<◌, ◌||◌, Bool, true, false, true≢false, List, [], ◌∷◌, ◌++◌, length, refl, sym, ap, ◌∙◌, subst, Option, Some, None, arith}
 use Rattle.std.specs.Prelude.{slice_get}
 use Rattle.std.specs.Option.{is_some}
 use Rattle.std.specs.List.{concat}
@@ -9,24 +9,23 @@ use Rattle.vault_types.specs.declared.Cutting.{Cutting}
 use Rattle.vault_types.specs.declared.Fault.{Fault}
 use Rattle.vault_types.specs.declared.Flow.{Flow}
 use Rattle.vault_types.specs.declared.Fp.{Fp}
-use Rattle.vault_types.specs.declared.How.{How}
-use Rattle.vault_types.specs.Names.{NamedChunk, named_chunk, fp}
+use Rattle.vault_types.specs.Names.{fp}
 use Rattle.vault_types.specs.Decide.{Rules}
-use Rattle.vault_types.specs.Stages.{IsLine, IsFront, as_parts}
+use Rattle.vault_types.specs.Stages.{IsLine, IsFront}
 use Rattle.vault_traits.specs.Told.{SourceTold}
 use Rattle.rewrite_stage.specs.declared.Decided.{Decided}
 use Rattle.stage_flows.specs.declared.Last.{Last}
 use Rattle.stage_flows.specs.declared.Last.TheVariants as last
-use Rattle.stage_flows.specs.Runs.{run, closing, is_stop}
+use Rattle.stage_flows.specs.Runs.{run, is_stop}
 use Rattle.stage_flows.proofs.Running.{run-one}
 use Rattle.vault_types.specs.JobRanges.{IsCuttable}
 use Rattle.source_reads.specs.Reading.{HasRead, Advances, WentOn}
-use Rattle.stage_lanes.specs.Lanes.{AllAt, after, at_lane, lane_parts, picked_from}
+use Rattle.stage_lanes.specs.Lanes.{AllAt, lane_parts, picked_from}
 use Rattle.stage_rules.specs.Chunking.{IsOwnFault}
-use Rattle.segment_gather.specs.Segmented.{parts_of, part_of}
+use Rattle.segment_gather.specs.Segmented.{parts_of}
 use Rattle.chunk_stage.specs.Stage.{IsBack as ChunkBack}
 use Rattle.decide_stage.specs.Deciding.{IsBack as DecideBack}
-use Rattle.pipe_laws.specs.Pipe.{LaneBack, Pipe, ReadBack, AsOne}
+use Rattle.pipe_laws.specs.Pipe.{LaneBack, Pipe, AsOne}
 use Rattle.pipe_laws.proofs.Lane.{front_trans}
 use Rattle.pipe_laws.proofs.Back.{read_back, as_one}
 use Rattle.pipe_lanes.specs.Lanes.{AreBack}
@@ -186,13 +185,13 @@ module _ (c : Cutting) (find : Fp → Option ℕ) (r : Rules) (limit : ℕ) (fro
         let l_is : b.l ≡ Some last.Stopped = (run-one b.parts (parts_of ps) b.l (Some last.Stopped) (sym b.far_is ∙ named_taken ps (Some last.Stopped) at)).1 in
         let saw : e.saw ≡ true = e.reading.looked ∙ ap is_stop (b.stopped l_is) in
         ⊎_elim (λ (s : stopped ≡ true). s)
-            (λ (o : (chunk_raised || decide_raised) ≡ true). absurd (no_fault ps last.Stopped at (λ f q. absurd (cc)) (or_true chunk_raised decide_raised o)))
-            (or_true stopped (chunk_raised || decide_raised) (sym by ∙ seen saw));
+        (λ (o : (chunk_raised || decide_raised) ≡ true). absurd (no_fault ps last.Stopped at (λ f q. absurd (cc)) (or_true chunk_raised decide_raised o)))
+        (or_true stopped (chunk_raised || decide_raised) (sym by ∙ seen saw));
   }
     where
       no_fault : (parts : List Decided) (k : Last) → taken ≡ run parts (Some k) → ((f : Fault) → k ≡ last.Failed f → ⊥) → (chunk_raised ≡ true) ⊎ (decide_raised ≡ true) → ⊥
       no_fault parts k is unlike o =
           let one = whole.one (parts_of parts) k (named_taken parts (Some k) is) unlike in
           ⊎_elim (λ (u : chunk_raised ≡ true). absurd (true≢false (sym u ∙ e.chunking.raised_is ∙ no_own e.chunking.own e.reads_over e.chunking.l k e.chunking.own_is one.0 unlike)))
-              (λ (u : decide_raised ≡ true). absurd (true≢false (sym u ∙ e.deciding.raised_is ∙ no_own e.deciding.own e.named_over e.deciding.l k e.deciding.own_is one.1 unlike)))
-              o
+          (λ (u : decide_raised ≡ true). absurd (true≢false (sym u ∙ e.deciding.raised_is ∙ no_own e.deciding.own e.named_over e.deciding.l k e.deciding.own_is one.1 unlike)))
+          o

@@ -1,7 +1,6 @@
 -- A job's holders, all back.
-use Rattle.std.proofs.Common.{◌≡◌, ◌⊎◌, inl, inr, ⊎_elim, ℕ, zero, suc, ◌+◌, ◌||◌, Bool, true, false, true≢false, List, [], ◌∷◌, ◌++◌, length, map, refl, sym, ap, ◌∙◌, subst, arith, length-append}
+use Rattle.std.proofs.Common.{◌≡◌, ℕ, zero, suc, ◌+◌, ◌||◌, Bool, true, false, true≢false, List, [], ◌∷◌, ◌++◌, length, refl, sym, ap, ◌∙◌, subst, arith, length-append}
 use Rattle.std.specs.List.{AllByRecursion, list_any}
-use Rattle.std.proofs.lemmas.List.{length-map}
 use Rattle.std.proofs.lemmas.List.Elements.{All-from_recursion}
 use Rattle.stop_word.specs.Holders.{Held, Family, fresh, IsWhole}
 use Rattle.pipe_lanes.specs.Lanes.{AreNew}
@@ -21,7 +20,7 @@ pub whole_of : (f : Family) (all : List Held) (own r c d : Held) (ls : List Held
 whole_of f all own r c d ls is a b e g h count = subst IsWhole (sym is) (
   (let n : own.family.count ≡ f.count = ap (λ q. q.count) a in omega arith),
   All-from_recursion (λ k. k.family ≡ own.family) (own ∷ r ∷ c ∷ d ∷ ls)
-  (subst (λ q. AllByRecursion (λ k. k.family ≡ q) (own ∷ r ∷ c ∷ d ∷ ls)) (sym a) (a, (b, (e, (g, kin_of f ls h))))),
+      (subst (λ q. AllByRecursion (λ k. k.family ≡ q) (own ∷ r ∷ c ∷ d ∷ ls)) (sym a) (a, (b, (e, (g, kin_of f ls h))))),
 )
 
 none_any : (f : Family) (hs : List Held) → AreNew f hs → list_any (λ h. h.raised) hs ≡ false

@@ -1,6 +1,6 @@
 -- What holds of a job that runs: its lines go from stage to stage, its stages began with nothing,
 -- and its holders are all of one word.
-use Rattle.std.specs.Prelude.{◌≡◌, ◌≤◌, ◌<◌, ◌+◌, ℕ, false, List, [], ◌∷◌, ◌++◌, length, map}
+use Rattle.std.specs.Prelude.{◌≡◌, ◌≤◌, ◌<◌, ◌+◌, ℕ, List, [], ◌∷◌, ◌++◌, length, map}
 use Rattle.std.specs.List.{AllByRecursion}
 use Rattle.stage_queue.specs.Ends.{Sender, Receiver}
 use Rattle.vault_types.specs.declared.Flow.{Flow}

@@ -74,7 +74,16 @@ impl<I: Source + Drop> Job<I> {
         requires { IsCuttable config.cutting }
         ensures { result ≡ record { source = source; cutting = config.cutting; rules = record { sparse = room; config = config }; limit = limit; index = index; taken = []; stopped = false } }
     {
-        Job::start_on(rt, room, scope, source, index, config, limit, StackSizes::usual())
+        Job::start_on(
+            rt,
+            room,
+            scope,
+            source,
+            index,
+            config,
+            limit,
+            StackSizes::usual(),
+        )
     }
 
     /// The same, in threads with stacks of such sizes: the host refuses one that is too large.
@@ -120,7 +129,17 @@ impl<I: Source + Drop> Job<I> {
         let read = ReadStage::new(alloc, source, limit, read_to, read_holder);
         let sum = SumStage::new(sum_from, sum_to);
         let chunk = ChunkStage::new(alloc, config.cutting, limit, chunk_from, near, chunk_holder);
-        let decide = DecideStage::new(alloc, index, sparse, copy, config, limit, lane_ends, outs, decide_holder);
+        let decide = DecideStage::new(
+            alloc,
+            index,
+            sparse,
+            copy,
+            config,
+            limit,
+            lane_ends,
+            outs,
+            decide_holder,
+        );
         let single = start_single(rt, single, scope, stacks, read, sum, chunk, decide);
         start_all(rt, scope, rooms, &mut lanes, stacks.lanes);
         Job {

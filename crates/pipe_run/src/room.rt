@@ -69,9 +69,7 @@ fn deal_four(all: &mut Vec<Holder>) -> Four
     ensures left { length all.new.items + 4 ≡ length all.old.items }
     ensures new { (f : Kin) → AreNew f all.old.items → AreNew f (result.own ∷ result.read ∷ result.chunk ∷ result.decide ∷ []) × AreNew f all.new.items }
 {
-    let Some(own) = all.pop() else {
-        unreachable!()
-    };
+    let Some(own) = all.pop() else { unreachable!() };
     let Some(read) = all.pop() else {
         unreachable!()
     };

@@ -1,10 +1,10 @@
 -- One item more is sealed.
-use Rattle.std.proofs.Common.{◌≡◌, List, [], ◌∷◌, ◌++◌, sym, ap, ◌∙◌, append-nil, Option, Some, None}
+use Rattle.std.proofs.Common.{List, [], ◌∷◌, ◌++◌, sym, ap, ◌∙◌, append-nil, Some, None}
 use Rattle.vault_types.specs.declared.Flow.{Flow}
 use Rattle.vault_types.specs.declared.Flow.TheVariants.{Part}
 use Rattle.vault_types.specs.Tables.{Container}
 use Rattle.stage_flows.specs.declared.Last.{Last}
-use Rattle.stage_flows.specs.Runs.{item_of, run}
+use Rattle.stage_flows.specs.Runs.{item_of}
 use Rattle.stage_flows.proofs.Running.{run-part, run-last}
 use Rattle.seal_stage.specs.Sealing.{AreSealed}
 

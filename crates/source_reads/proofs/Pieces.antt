@@ -1,12 +1,12 @@
 -- One read more, and the end.
-use Rattle.std.proofs.Common.{◌≡◌, ℕ, ◌+◌, ◌≤◌, ◌*◌, Bool, List, [], ◌∷◌, ◌++◌, length, refl, sym, ap, ◌∙◌, subst, append-nil, Option, Some, None, arith, length-append}
+use Rattle.std.proofs.Common.{◌≡◌, ℕ, ◌+◌, ◌≤◌, ◌*◌, Bool, List, [], ◌∷◌, ◌++◌, length, refl, sym, ap, ◌∙◌, subst, append-nil, Some, None, arith, length-append}
 use Rattle.std.specs.List.{concat, AllByRecursion}
 use Rattle.std.proofs.lemmas.List.Folds.{concat-append}
 use Rattle.vault_types.specs.declared.Flow.{Flow}
 use Rattle.vault_types.specs.declared.Flow.TheVariants.{Part}
 use Rattle.vault_types.specs.Stages.{but_last}
 use Rattle.stage_flows.specs.declared.Last.{Last}
-use Rattle.stage_flows.specs.Runs.{item_of, run, is_stop}
+use Rattle.stage_flows.specs.Runs.{item_of, is_stop}
 use Rattle.stage_flows.proofs.Running.{run-part, run-last}
 use Rattle.source_reads.specs.Reading.{HasRead, IsOwnEnd}
 

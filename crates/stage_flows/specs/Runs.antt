@@ -2,7 +2,7 @@
 use Rattle.std.specs.Prelude.{◌≡◌, ◌⊎◌, Bool, true, false, List, [], ◌∷◌, ◌++◌, Option, Some, None}
 use Rattle.vault_types.specs.declared.Fault.TheVariants as fault
 use Rattle.vault_types.specs.declared.Flow.{Flow}
-use Rattle.vault_types.specs.declared.Flow.TheVariants.{Part, End, Failed, Stopped}
+use Rattle.vault_types.specs.declared.Flow.TheVariants.{End, Failed, Stopped}
 use Rattle.vault_types.specs.Stages.{as_parts, IsFront}
 use Rattle.stage_flows.specs.declared.Last.{Last}
 use Rattle.stage_flows.specs.declared.Last.TheVariants as last

@@ -1,5 +1,5 @@
 -- What a turn of a stage tells.
-use Rattle.std.specs.Prelude.{◌≡◌, ◌<◌, ℕ, Bool, true, false, List, [], ◌∷◌, ◌&&◌, Option, Some, None}
+use Rattle.std.specs.Prelude.{◌≡◌, ◌<◌, ℕ, Bool, true, false, List, [], ◌∷◌, Option, Some, None}
 use Rattle.vault_types.specs.declared.Turn.{Turn}
 use Rattle.vault_types.specs.declared.Turn.TheVariants.{Moved, Idle, Done}
 use Rattle.stage_flows.specs.declared.Last.{Last}

@@ -1,5 +1,5 @@
 -- What a dealer and a picker keep at a step.
-use Rattle.std.proofs.Common.{◌≡◌, ◌⊎◌, inl, inr, ⊎_elim, ℕ, ◌+◌, ◌<◌, ◌≤◌, List, [], ◌∷◌, ◌++◌, Option, Some, None, length, sym, refl, ap, ◌∙◌, subst, arith, append_assoc, append-nil}
+use Rattle.std.proofs.Common.{◌≡◌, inl, inr, ⊎_elim, ℕ, ◌+◌, ◌<◌, List, [], ◌∷◌, ◌++◌, Option, Some, None, length, sym, refl, ap, ◌∙◌, subst, arith, append_assoc, append-nil}
 use Rattle.stage_queue.specs.Ends.{Sender, Receiver}
 use Rattle.vault_types.specs.declared.Flow.{Flow}
 use Rattle.vault_types.specs.declared.Flow.TheVariants.{Part}

@@ -1,5 +1,5 @@
 -- How parts are dealt to lanes in turn, and taken from them again.
-use Rattle.std.specs.Prelude.{◌≡◌, ℕ, ◌+◌, ◌==◌, List, [], ◌∷◌, ◌++◌, Option, Some, None, slice_get, if◌then◌else◌, nat_lt}
+use Rattle.std.specs.Prelude.{◌≡◌, ℕ, ◌+◌, ◌==◌, List, [], ◌∷◌, ◌++◌, Option, Some, slice_get, if◌then◌else◌, nat_lt}
 use Rattle.vault_types.specs.declared.Flow.{Flow}
 use Rattle.vault_types.specs.Stages.{as_parts}
 use Rattle.stage_flows.specs.declared.Last.{Last}

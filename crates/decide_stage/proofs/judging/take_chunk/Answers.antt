@@ -1,10 +1,6 @@
-use Rattle.std.proofs.Common.{◌≡◌, ◌++◌, ◌∷◌, [], List, sym, ap, ◌∙◌, subst, append_assoc, append-nil}
-use Rattle.fp_index.specs.Index.{found_in}
-use Rattle.vault_types.specs.declared.How.{How}
-use Rattle.vault_types.specs.Names.{NamedChunk, named_chunk}
-use Rattle.vault_types.specs.Stages.{IsFront, decided_parts}
+use Rattle.std.proofs.Common.{◌++◌, ◌∷◌, []}
+use Rattle.vault_types.specs.Names.{named_chunk}
 use Rattle.segment_gather.specs.Segmented.{parts_of}
-use Rattle.segment_gather.specs.Gathering.{answers_of}
 use Rattle.decide_stage.proofs.Judged.{front_still, front_taken}
 use Rattle.decide_stage.proofs.judging.take_chunk.Goals as goal
 

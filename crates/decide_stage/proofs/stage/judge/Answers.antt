@@ -1,5 +1,4 @@
-use Rattle.std.proofs.Common.{◌≡◌, ◌⊎◌, inl, inr, ⊎_elim, ◌++◌, ◌∷◌, [], ◌<◌, length, Some, None, refl, sym, ap, subst, arith, length-append, append-nil, rules}
-use Rattle.vault_types.specs.declared.Fault.TheVariants as fault
+use Rattle.std.proofs.Common.{◌≡◌, inl, inr, ⊎_elim, ◌++◌, ◌∷◌, [], Some, None, refl, sym, subst, arith, length-append, append-nil, rules}
 use Rattle.vault_types.specs.Stages.{IsFront, decided_parts}
 use Rattle.stage_flows.specs.declared.Last.TheVariants as last
 use Rattle.vault_types.specs.Names.{named_chunk}

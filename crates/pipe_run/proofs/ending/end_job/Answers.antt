@@ -1,4 +1,4 @@
-use Rattle.std.proofs.Common.{◌≡◌, ◌<◌, ◌+◌, ◌++◌, ◌∷◌, [], List, ℕ, length, map, refl, sym, ap, ◌∙◌, subst, arith, rules, false}
+use Rattle.std.proofs.Common.{◌≡◌, ◌++◌, ◌∷◌, [], List, ℕ, length, map, sym, ap, ◌∙◌, subst, arith, rules, false}
 use Rattle.std.proofs.lemmas.List.{length-map}
 use Rattle.vault_types.specs.declared.Flow.{Flow}
 use Rattle.vault_traits.specs.Told.{SourceTold}
@@ -34,7 +34,7 @@ gather-raised-requires g c = let run = c.requires.running in
     let four : c.push-4.new.self.items ≡ c.push-3.new.self.items ++ d ∷ [] = search rules in
     let ls = map (λ l. l.holder) c.args.lanes.items in
     let all : c.end_all.new.holders.items ≡ own ∷ r ∷ k ∷ d ∷ ls =
-          c.end_all.ensures.holders ∙ ap (λ q. q ++ ls) (four ∙ ap (λ q. q ++ d ∷ []) (three ∙ ap (λ q. q ++ k ∷ []) (two ∙ ap (λ q. q ++ r ∷ []) (one ∙ ap (λ q. q ++ own ∷ []) run.none.0)))) in
+    c.end_all.ensures.holders ∙ ap (λ q. q ++ ls) (four ∙ ap (λ q. q ++ d ∷ []) (three ∙ ap (λ q. q ++ k ∷ []) (two ∙ ap (λ q. q ++ r ∷ []) (one ∙ ap (λ q. q ++ own ∷ []) run.none.0)))) in
     let a = head_new run.family c.args.single.read.first.holder (c.args.single.chunk.first.holder ∷ c.args.single.decide.first.holder ∷ []) run.stages in
     let b = head_new run.family c.args.single.chunk.first.holder (c.args.single.decide.first.holder ∷ []) a.1 in
     let e = head_new run.family c.args.single.decide.first.holder [] b.1 in
@@ -56,7 +56,7 @@ returns-clause-back g c = let run = c.requires.running in let last = c.requires.
     let four : c.push-4.new.self.items ≡ c.push-3.new.self.items ++ d ∷ [] = search rules in
     let ls = map (λ l. l.holder) c.args.lanes.items in
     let all : c.end_all.new.holders.items ≡ own ∷ r ∷ k ∷ d ∷ ls =
-          c.end_all.ensures.holders ∙ ap (λ q. q ++ ls) (four ∙ ap (λ q. q ++ d ∷ []) (three ∙ ap (λ q. q ++ k ∷ []) (two ∙ ap (λ q. q ++ r ∷ []) (one ∙ ap (λ q. q ++ own ∷ []) run.none.0)))) in
+    c.end_all.ensures.holders ∙ ap (λ q. q ++ ls) (four ∙ ap (λ q. q ++ d ∷ []) (three ∙ ap (λ q. q ++ k ∷ []) (two ∙ ap (λ q. q ++ r ∷ []) (one ∙ ap (λ q. q ++ own ∷ []) run.none.0)))) in
     let a = head_new run.family single.read.first.holder (single.chunk.first.holder ∷ single.decide.first.holder ∷ []) run.stages in
     let idle : r.raised ≡ false = ap (λ q. q.raised) c.end-source.ensures.ends.2 ∙ sym c.end-read_stage.ensures.same.4 ∙ a.0.1 in
     let told = g.I.Source.told in
@@ -70,36 +70,36 @@ returns-clause-back g c = let run = c.requires.running in let last = c.requires.
     let cut = single.chunk.first.cutting in let limit = single.decide.first.limit in let find = found_in single.decide.first.index in let rules_are = single.decide.first.rules in
     let ready = c.end-read_stage.result.ready in
     let e : Ends cut find rules_are limit (told single.read.first.source) (told c.end-source.result.0) c.args.far.taken c.end-sum_from.result.2 near far k.raised d.raised = record {
-          cuttable = run.cuttable;
-          some = omega arith;
-          read_sent = c.end-source.result.1.sent;
-          read_ready = ready;
-          over = c.end-read_stage.result.over;
-          read = c.end-read_stage.result.read;
-          saw = r.saw;
-          reading = subst (λ n. HasRead n c.end-read_stage.result.read (c.end-source.result.1.sent ++ ready) c.end-read_stage.result.over r.saw) (sym read.0 ∙ run.limits.0) c.end-source.ensures.sent;
-          going = subst (λ (z : List (Flow (List ℕ)) × SourceTold × List (Flow (List ℕ))). Advances (told single.read.first.source) z.0 z.1 z.2) (λ i. (run.unread i, told (sym c.end-source.ensures.ends.0 i), (sym c.end-source.ensures.ends.1 i).sent ++ ready)) read.5;
-          sum_taken = c.end-sum_from.result.0.taken;
-          first_line = (c.close.ensures.0, c.close.ensures.1.same);
-          sum_sent = c.end-sum_from.result.1.sent;
-          sum_ready = c.end-sum_stage.result.ready;
-          passed = c.end-sum_from.ensures.sent;
-          summed_over = c.end-sum_stage.result.over;
-          summed = c.end-sum_from.ensures.sum;
-          chunk_taken = c.end-chunk_from.result.0.taken;
-          second_line = (c.close-2.ensures.0, c.close-2.ensures.1.same);
-          reads_over = c.end-chunk_stage.result.over;
-          chunking = subst (λ q. ChunkBack q limit c.end-chunk_from.result.0.taken c.end-chunk_stage.result.over near k.raised) (sym chunk.0)
-              (subst (λ n. ChunkBack c.end-chunk_stage.result.cutting n c.end-chunk_from.result.0.taken c.end-chunk_stage.result.over near k.raised) (sym chunk.1 ∙ run.limits.1) c.end-chunk_from.ensures.back);
-          lanes = c.end_all.ensures.back;
-          named_over = c.end-decide_stage.result.over;
-          out = c.in-Some.out;
-          deciding = subst (λ q. DecideBack find rules_are limit far c.end-decide_stage.result.over q d.raised) out
-              (subst (λ n. DecideBack find rules_are n far c.end-decide_stage.result.over c.end-index.result.2.items d.raised) (sym decide.0)
-              (subst (λ q. DecideBack find q c.end-decide_stage.result.limit far c.end-decide_stage.result.over c.end-index.result.2.items d.raised) (sym decide.1)
-              (subst (λ q. DecideBack (found_in q) c.end-decide_stage.result.rules c.end-decide_stage.result.limit far c.end-decide_stage.result.over c.end-index.result.2.items d.raised) (sym decide.2) c.end-index.ensures.back)));
-          last_line = (c.close-3.ensures.0, c.close-3.ensures.1.same);
-        } in
+      cuttable = run.cuttable;
+      some = omega arith;
+      read_sent = c.end-source.result.1.sent;
+      read_ready = ready;
+      over = c.end-read_stage.result.over;
+      read = c.end-read_stage.result.read;
+      saw = r.saw;
+      reading = subst (λ n. HasRead n c.end-read_stage.result.read (c.end-source.result.1.sent ++ ready) c.end-read_stage.result.over r.saw) (sym read.0 ∙ run.limits.0) c.end-source.ensures.sent;
+      going = subst (λ (z : List (Flow (List ℕ)) × SourceTold × List (Flow (List ℕ))). Advances (told single.read.first.source) z.0 z.1 z.2) (λ i. (run.unread i, told (sym c.end-source.ensures.ends.0 i), (sym c.end-source.ensures.ends.1 i).sent ++ ready)) read.5;
+      sum_taken = c.end-sum_from.result.0.taken;
+      first_line = (c.close.ensures.0, c.close.ensures.1.same);
+      sum_sent = c.end-sum_from.result.1.sent;
+      sum_ready = c.end-sum_stage.result.ready;
+      passed = c.end-sum_from.ensures.sent;
+      summed_over = c.end-sum_stage.result.over;
+      summed = c.end-sum_from.ensures.sum;
+      chunk_taken = c.end-chunk_from.result.0.taken;
+      second_line = (c.close-2.ensures.0, c.close-2.ensures.1.same);
+      reads_over = c.end-chunk_stage.result.over;
+      chunking = subst (λ q. ChunkBack q limit c.end-chunk_from.result.0.taken c.end-chunk_stage.result.over near k.raised) (sym chunk.0)
+          (subst (λ n. ChunkBack c.end-chunk_stage.result.cutting n c.end-chunk_from.result.0.taken c.end-chunk_stage.result.over near k.raised) (sym chunk.1 ∙ run.limits.1) c.end-chunk_from.ensures.back);
+      lanes = c.end_all.ensures.back;
+      named_over = c.end-decide_stage.result.over;
+      out = c.in-Some.out;
+      deciding = subst (λ q. DecideBack find rules_are limit far c.end-decide_stage.result.over q d.raised) out
+          (subst (λ n. DecideBack find rules_are n far c.end-decide_stage.result.over c.end-index.result.2.items d.raised) (sym decide.0)
+          (subst (λ q. DecideBack find q c.end-decide_stage.result.limit far c.end-decide_stage.result.over c.end-index.result.2.items d.raised) (sym decide.1)
+          (subst (λ q. DecideBack (found_in q) c.end-decide_stage.result.rules c.end-decide_stage.result.limit far c.end-decide_stage.result.over c.end-index.result.2.items d.raised) (sym decide.2) c.end-index.ensures.back)));
+      last_line = (c.close-3.ensures.0, c.close-3.ensures.1.same);
+    } in
     job_back cut find rules_are limit (told single.read.first.source) (told c.end-source.result.0) c.args.far.taken c.end-sum_from.result.2 near far k.raised d.raised e
     own.raised c.gather-raised.result last.0 last.1 last.2
     (raised_is run.family c.end_all.new.holders.items own r k d ls c.gather-raised.result all idle run.lane_holders c.gather-raised.ensures.raised)

@@ -1,7 +1,7 @@
-use Rattle.std.proofs.Common.{◌≡◌, ◌++◌, [], length, None, Some, rules, ap, ◌∙◌}
+use Rattle.std.proofs.Common.{◌≡◌, ◌++◌, [], length, None, rules}
 use Rattle.stage_flows.proofs.Running.{sent_one}
 use Rattle.seal_stage.specs.Sealing.{AreSealed}
-use Rattle.seal_stage.proofs.Seals.{AreSealed_part, AreSealed_last}
+use Rattle.seal_stage.proofs.Seals.{AreSealed_part}
 use Rattle.seal_stage.proofs.SealStageStage.turn.Goals as goal
 
 pub returns-in-Ok-clause-turned : goal.returns-in-Ok-clause-turned

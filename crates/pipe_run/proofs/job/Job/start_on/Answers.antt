@@ -1,4 +1,4 @@
-use Rattle.std.proofs.Common.{◌≡◌, ◌<◌, length, [], arith}
+use Rattle.std.proofs.Common.{◌≡◌, [], arith}
 use Rattle.std.proofs.lemmas.List.Elements.{All-from_recursion}
 use Rattle.pipe_run.proofs.Ends.{ends_len, one_len}
 use Rattle.pipe_run.proofs.job.Job.start_on.Goals as goal

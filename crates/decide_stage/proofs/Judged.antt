@@ -21,15 +21,16 @@ use Rattle.vault_types.specs.Stages.{decided_parts, as_parts, IsFront}
 use Rattle.stage_flows.specs.declared.Last.{Last}
 use Rattle.stage_flows.specs.declared.Last.TheVariants as last
 use Rattle.stage_rules.specs.Chunking.{IsOwnFault}
-use Rattle.stage_rules.specs.Deciding.{IsDecidedBy}
+use Rattle.stage_rules.specs.Deciding.{IsDecidedBy, IsDeciding}
 use Rattle.segment_gather.specs.Gathering.{HasGathered, HasDecidedAll, answers_of, chunks_in, places_of}
 use Rattle.segment_gather.proofs.Later.{gathered_front}
-use Rattle.decide_stage.specs.Deciding.{GoesOn, HasJudged, HasTaken, IsBack, chunk_of, last_in}
+use Rattle.decide_stage.specs.Deciding.{GoesOn, HasJudged, HasTaken, IsBack, ShortAt, chunk_of, last_in}
 use Rattle.std.proofs.lemmas.Bool.Decides.{nat_tests}
 use Rattle.stage_queue.specs.Ends.{Sender, Receiver}
 use Rattle.vault_types.specs.declared.Flow.{Flow}
 use Rattle.vault_types.specs.declared.Flow.TheVariants.{Part}
-use Rattle.stage_flows.specs.Runs.{run, closing}
+use Rattle.stage_flows.specs.Runs.{run, closing, is_end, memory}
+use Rattle.decide_stage.proofs.Due.{due_taken, due_stays, short_stays}
 use Rattle.stage_lanes.specs.Lanes.{after, at_lane, lane_parts, lane_after}
 use Rattle.stage_lanes.specs.Dealing.{HasPicked}
 use Rattle.stage_lanes.specs.declared.picker.Picker.{Picker}
@@ -116,6 +117,10 @@ drops index r limit chunks item goes g count d raised off h = record {
         (h.decided.failed f is);
     stopped = λ is. absurd (let clash : ◌≡◌ {A = Option Last} None (Some last.Stopped) = h.decided.stopped is in cc);
   };
+  due = due_stays (found_in index) r limit chunks (chunk_of item) (parts_of h.gone) h.l (last_in item) given h.short
+      (λ no_end. subst (λ q. IsFront (parts_of h.gone) (decided_parts (found_in index) r q)) (append-nil (chunks ++ chunk_of item)) (subst (λ q. IsFront (parts_of h.gone) (decided_parts (found_in index) r q)) (sym (append_assoc chunks (chunk_of item) [])) (h.decided.front no_end (chunk_of item ++ []))))
+      h.due;
+  short = λ is. short_stays (found_in index) r limit chunks (chunk_of item) (parts_of h.gone) h.l (h.short is);
   own = h.own;
   own_is = owned h.own refl h.own_is;
   raised_is = h.raised_is;
@@ -128,6 +133,11 @@ drops index r limit chunks item goes g count d raised off h = record {
     owned None e own = absurd (let some = given in true≢false (sym (subst IsSome own some)))
     owned (Some f) e own = subst (λ q. IsOwnFault q (last_in item) h.l) (sym e) own
 
+pub unended : (k : Last) → (k ≡ last.End → ⊥) → is_end (Some k) ≡ false
+unended last.End f = absurd (f refl)
+unended (last.Failed g) f = refl
+unended last.Stopped f = refl
+
 pub no_end : (own : Option Fault) (l : Option Last) → IsOwnFault own (Some last.End) l → l ≡ None → ⊥
 no_end None l e none = let clash : ◌≡◌ {A = Option Last} (Some last.End) None = sym e ∙ none in cc
 no_end (Some f) l e none = let clash : ◌≡◌ {A = Option Last} (Some (last.Failed f)) None = sym e ∙ none in cc
@@ -137,7 +147,8 @@ pub judged_next : (index : List (Fp × List ℕ)) (r : Rules) (limit : ℕ) (chu
     → (h : HasJudged index r limit chunks None goes g count d raised) → goes ≡ true
     → ((before : List Decided) → HasDealt d before None → HasDealt d' (before ++ more) l)
     → (GoesOn true r limit chunks None (parts_of h.gone) None g count
-    → IsDecidedBy (found_in (index_of g)) r limit chunks' over' (parts_of h.gone ++ parts_of more) l × (l ≡ None → GoesOn true r limit chunks' over' (parts_of h.gone ++ parts_of more) None g' count'))
+    → IsDecidedBy (found_in (index_of g)) r limit chunks' over' (parts_of h.gone ++ parts_of more) l × (l ≡ None → GoesOn true r limit chunks' over' (parts_of h.gone ++ parts_of more) None g' count')
+    × IsDeciding (found_in (index_of g)) r limit chunks' over' (parts_of h.gone ++ parts_of more) l × (l ≡ memory → ShortAt (found_in (index_of g)) r limit chunks' (parts_of h.gone ++ parts_of more)))
     → IsOwnFault own over' l → index_of g' ≡ index_of g → MatchOption l (goes' ≡ true) (λ k. goes' ≡ false) → raised' ≡ (raised || is_some own)
     → HasJudged index r limit chunks' over' goes' g' count' d' raised'
 judged_next index r limit chunks chunks' over' goes goes' g g' count count' d d' raised raised' more l own h on give judge owned same open_yet raise =
@@ -151,6 +162,8 @@ judged_next index r limit chunks chunks' over' goes goes' g g' count count' d d'
       dealt = give h.gone (subst (HasDealt d h.gone) old.3 h.dealt);
       goes_on = subst (λ q. GoesOn goes' r limit chunks' over' q l g' count') (sym parts) (step l refl open_yet j.1);
       decided = subst (λ q. IsDecidedBy (found_in index) r limit chunks' over' q l) (sym parts) (subst (λ q. IsDecidedBy (found_in q) r limit chunks' over' (parts_of h.gone ++ parts_of more) l) h.index_is j.0);
+      due = subst (λ q. IsDeciding (found_in index) r limit chunks' over' q l) (sym parts) (subst (λ q. IsDeciding (found_in q) r limit chunks' over' (parts_of h.gone ++ parts_of more) l) h.index_is j.2);
+      short = λ is. subst (λ q. ShortAt (found_in index) r limit chunks' q) (sym parts) (subst (λ q. ShortAt (found_in q) r limit chunks' (parts_of h.gone ++ parts_of more)) h.index_is (j.3 is));
       own = own;
       own_is = owned;
       raised_is = raise ∙ ap (λ b. b || is_some own) (h.raised_is ∙ none_own h.own (subst (λ q. IsOwnFault h.own None q) old.3 h.own_is));
@@ -198,11 +211,24 @@ turned r limit p goes g count d d' raised h same = record {
     dealt = same j.gone j.l j.dealt;
     goes_on = j.goes_on;
     decided = j.decided;
+    due = j.due;
+    short = j.short;
     own = j.own;
     own_is = j.own_is;
     raised_is = j.raised_is;
   };
 }
+
+-- nothing was there to take
+pub waits : (r : Rules) (limit : ℕ) (p p' : Picker (List ℕ)) (goes : Bool) (g : Gatherer) (count : ℕ) (d : Dealer Decided) (raised : Bool) → (h : HasTaken r limit p goes g count d raised) → p.last ≡ None
+    → ((parts : List (List ℕ)) → HasPicked p parts None → HasPicked p' parts None) → HasTaken r limit p' goes g count d raised
+waits r limit p p' goes g count d raised h open_yet still =
+    let q = still h.chunks (subst (HasPicked p h.chunks) open_yet h.picked) in
+    record {
+      chunks = h.chunks;
+      picked = subst (HasPicked p' h.chunks) (sym q.last_is) q;
+      judged = subst (λ o. HasJudged (index_of g) r limit (map named_chunk h.chunks) o goes g count d raised) (open_yet ∙ sym q.last_is) h.judged;
+    }
 
 pub none_of : (o : Option Last) (b : Bool) → MatchOption o (b ≡ false) (λ l. b ≡ true) → b ≡ false → o ≡ None
 none_of None b m e = refl
@@ -220,6 +246,8 @@ begun r limit p g d raised picked gathered dealt idle = record {
     dealt = dealt;
     goes_on = (gathered, refl, omega arith, refl, refl);
     decided = own_judged (found_in (index_of g)) r limit [] [] None None refl (λ f is. absurd (let clash : ◌≡◌ {A = Option Fault} None (Some f) = is in cc)) (λ more. (decided_parts (found_in (index_of g)) r more, refl));
+    due = due_taken g g r limit [] None [] None gathered refl (omega arith) refl refl;
+    short = λ is. absurd (let clash : None ≡ memory = is in cc);
     own = None;
     own_is = refl;
     raised_is = idle;
@@ -260,6 +288,7 @@ is_back r limit p goes g count d raised lanes outs h same same' = subst (λ (z :
   gone = h.judged.gone;
   l = h.judged.l;
   decided = h.judged.decided;
+  due = h.judged.due;
   lines = dealt_front d h.judged.gone h.judged.l h.judged.dealt;
   own = h.judged.own;
   own_is = h.judged.own_is;

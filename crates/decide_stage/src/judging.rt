@@ -1,5 +1,5 @@
 // What one item comes to.
-ghost use Rattle.std.specs.Prelude.{◌≡◌, ◌≤◌, List, [], ◌∷◌, ◌++◌, length, Some, None, IsSome, ◌⊎◌};
+ghost use Rattle.std.specs.Prelude.{◌≡◌, ◌≤◌, ℕ, List, [], ◌∷◌, ◌++◌, length, Some, None, IsSome, ◌⊎◌};
 ghost use Rattle.vault_types.specs.declared.How.{How as Hows};
 ghost use Rattle.vault_types.specs.Names.{NamedChunk, named_chunk};
 ghost use Rattle.vault_types.specs.declared.Fault.{Fault as Faults};
@@ -7,6 +7,8 @@ ghost use Rattle.vault_types.specs.Decide.{Rules};
 ghost use Rattle.vault_types.specs.Stages.{IsFront, decided_parts};
 ghost use Rattle.stage_flows.specs.Runs.{memory};
 ghost use Rattle.stage_rules.specs.Chunking.{IsOwnFault};
+ghost use Rattle.stage_rules.specs.Deciding.{IsDeciding};
+ghost use Rattle.decide_stage.specs.Deciding.{ShortAt};
 ghost use Rattle.segment_gather.specs.Segmented.{parts_of};
 ghost use Rattle.segment_gather.specs.Gathering.{HasGathered, HasDecidedAll, index_of, answers_of};
 
@@ -51,6 +53,9 @@ pub(crate) fn take_chunk(
         → result.last ≡ None → HasGathered gatherer.new r (chunks ++ named_chunk chunk ∷ []) (gone ++ parts_of result.parts.items) × (count.new ≡ length (chunks ++ named_chunk chunk ∷ [])) × (count.new ≤ limit) }
     ensures front { (r : Rules) (chunks : List NamedChunk) (gone : List (NamedChunk × Hows)) → HasGathered gatherer.old r chunks gone → (more : List NamedChunk)
         → IsFront (gone ++ parts_of result.parts.items) (decided_parts (answers_of gatherer.old) r ((chunks ++ named_chunk chunk ∷ []) ++ more)) }
+    ensures due { (r : Rules) (chunks : List NamedChunk) (gone : List (NamedChunk × Hows)) → HasGathered gatherer.old r chunks gone → count.old ≡ length chunks
+        → IsDeciding (answers_of gatherer.old) r limit (chunks ++ named_chunk chunk ∷ []) None (gone ++ parts_of result.parts.items) result.last
+        × (result.last ≡ memory → ShortAt (answers_of gatherer.old) r limit (chunks ++ named_chunk chunk ∷ []) (gone ++ parts_of result.parts.items)) }
     ensures own { IsOwnFault result.own None result.last }
     ensures causes { (f : Faults) → result.own ≡ Some f → ((f ≡ Fault.TooMany limit) × (count.old ≡ limit)) ⊎ (f ≡ Fault.Memory) }
 {
@@ -82,6 +87,9 @@ pub(crate) fn take_end(alloc: Global, gatherer: &mut Gatherer) -> Given
         → result.own ≡ None → HasDecidedAll (answers_of gatherer.old) r chunks (gone ++ parts_of result.parts.items) × (result.last ≡ Some Last.End) }
     ensures front { (r : Rules) (chunks : List NamedChunk) (gone : List (NamedChunk × Hows)) → HasGathered gatherer.old r chunks gone → IsSome result.own
         → (more : List NamedChunk) → IsFront (gone ++ parts_of result.parts.items) (decided_parts (answers_of gatherer.old) r (chunks ++ more)) }
+    ensures due { (r : Rules) (limit : ℕ) (chunks : List NamedChunk) (gone : List (NamedChunk × Hows)) → HasGathered gatherer.old r chunks gone → length chunks ≤ limit
+        → IsDeciding (answers_of gatherer.old) r limit (chunks ++ []) (Some Last.End) (gone ++ parts_of result.parts.items) result.last
+        × (result.last ≡ memory → ShortAt (answers_of gatherer.old) r limit (chunks ++ []) (gone ++ parts_of result.parts.items)) }
     ensures own { IsOwnFault result.own (Some Last.End) result.last }
     ensures causes { (f : Faults) → result.own ≡ Some f → f ≡ Fault.Memory }
 {

@@ -10,8 +10,9 @@ ghost use Rattle.stage_rules.specs.Chunking.{IsOwnFault};
 ghost use Rattle.segment_gather.specs.Gathering.{index_of, answers_of};
 ghost use Rattle.vault_types.specs.declared.How.{How as Hows};
 ghost use Rattle.segment_gather.specs.Segmented.{parts_of};
-ghost use Rattle.stage_rules.specs.Deciding.{IsDecidedBy};
-ghost use Rattle.decide_stage.specs.Deciding.{HasJudged, GoesOn, chunk_of, last_in};
+ghost use Rattle.stage_rules.specs.Deciding.{IsDecidedBy, IsDeciding};
+ghost use Rattle.decide_stage.specs.Deciding.{HasJudged, GoesOn, ShortAt, chunk_of, last_in};
+ghost use Rattle.stage_flows.specs.Runs.{memory};
 
 use crate::judging::{Given, take_chunk, take_end};
 use fingerprint_stage::Chunk;
@@ -62,7 +63,9 @@ fn judge(
     ensures index { index_of gatherer.new ≡ index_of gatherer.old }
     ensures judged { (r : Rules) (chunks : List NamedChunk) (gone : List (NamedChunk × Hows)) → GoesOn true r limit chunks None gone None gatherer.old count.old
         → IsDecidedBy (answers_of gatherer.old) r limit (chunks ++ chunk_of item) (last_in item) (gone ++ parts_of result.parts.items) result.last
-        × (result.last ≡ None → GoesOn true r limit (chunks ++ chunk_of item) (last_in item) (gone ++ parts_of result.parts.items) None gatherer.new count.new) }
+        × (result.last ≡ None → GoesOn true r limit (chunks ++ chunk_of item) (last_in item) (gone ++ parts_of result.parts.items) None gatherer.new count.new)
+        × IsDeciding (answers_of gatherer.old) r limit (chunks ++ chunk_of item) (last_in item) (gone ++ parts_of result.parts.items) result.last
+        × (result.last ≡ memory → ShortAt (answers_of gatherer.old) r limit (chunks ++ chunk_of item) (gone ++ parts_of result.parts.items)) }
     ensures own { IsOwnFault result.own (last_in item) result.last }
 {
     match item {

@@ -27,7 +27,7 @@ module _ {X : Type 0} (w : X → ℕ) where
       step true e i = let less : 1 + fitting w (room - w x) xs < length (x ∷ xs) = rw e at h in rw e (ap (λ n. 1 + n) (i (omega arith)))
       step false e i = rw e refl
 
-  some_left : (size : ℕ) (zs : List X) (done : List (List X)) (o : X) (os : List X) → pieces w size zs ≡ done ++ (o ∷ os) ∷ [] → 1 ≤ length zs
+  pub some_left : (size : ℕ) (zs : List X) (done : List (List X)) (o : X) (os : List X) → pieces w size zs ≡ done ++ (o ∷ os) ∷ [] → 1 ≤ length zs
   some_left size [] [] o os e = absurd (cc)
   some_left size [] (d ∷ done) o os e = absurd (cc)
   some_left size (z ∷ zs) done o os e = omega arith
@@ -55,7 +55,7 @@ module _ {X : Type 0} (w : X → ℕ) where
       ∙ ap (λ rs. d ∷ pieces w size rs) (drop-append-le k xs ys within)
       ∙ ap (λ ps. d ∷ ps) (pieces-stay size done o os (drop k xs) ys others)
 
-joined-append : (a b : List (List NamedChunk)) → joined (a ++ b) ≡ joined a ++ joined b
+pub joined-append : (a b : List (List NamedChunk)) → joined (a ++ b) ≡ joined a ++ joined b
 joined-append [] b = refl
 joined-append (d ∷ a) b = ap (λ cs. d ++ cs) (joined-append a b) ∙ sym (append_assoc d (joined a) (joined b))
 
@@ -84,16 +84,16 @@ zip-front : (parts : List (NamedChunk × How)) (chunks : List NamedChunk) (place
 zip-front [] chunks places = refl
 zip-front (p ∷ ps) chunks places = ap (λ l. p ∷ l) (zip-front ps chunks places)
 
-no_parts : (parts : List (NamedChunk × How)) → chunks_in parts ≡ [] → parts ≡ []
+pub no_parts : (parts : List (NamedChunk × How)) → chunks_in parts ≡ [] → parts ≡ []
 no_parts [] e = refl
 no_parts (p ∷ ps) e = absurd (cc)
 
-no_chunks : (xs : List (List ℕ)) → map named_chunk xs ≡ [] → xs ≡ []
+pub no_chunks : (xs : List (List ℕ)) → map named_chunk xs ≡ [] → xs ≡ []
 no_chunks [] e = refl
 no_chunks (x ∷ xs) e = absurd (cc)
 
 -- the decisions on some segments begin those on these and more
-by_segments : (find : Fp → Option ℕ) (r : Rules) (gone : List (NamedChunk × How)) (all : List NamedChunk) (done rest : List (List NamedChunk))
+pub by_segments : (find : Fp → Option ℕ) (r : Rules) (gone : List (NamedChunk × How)) (all : List NamedChunk) (done rest : List (List NamedChunk))
     → chunks_in gone ≡ joined done → places_of gone ≡ places_in find r done → segments_of r.config all ≡ done ++ rest → IsFront gone (decided_parts find r all)
 by_segments find r gone all done rest chunks places split =
     let looked : List (List NamedChunk) → List (List Looked) = map (map (look_up find)) in

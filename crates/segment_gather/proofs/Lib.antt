@@ -1,3 +1,4 @@
 pub mod Segments
 pub mod Gathers
 pub mod Later
+pub mod Complete

@@ -10,7 +10,7 @@ use Rattle.vault_types.specs.declared.How.{How}
 use Rattle.vault_types.specs.Cuts.{cuts}
 use Rattle.vault_types.specs.Names.{NamedChunk, named_chunk}
 use Rattle.vault_types.specs.Decide.{Rules}
-use Rattle.vault_types.specs.Stages.{IsFront, Sends, chunk_items, decided_parts}
+use Rattle.vault_types.specs.Stages.{IsFront, Sends, chunk_items, decided_items, decided_parts}
 use Rattle.stage_flows.specs.declared.Last.{Last}
 use Rattle.stage_flows.specs.declared.Last.TheVariants as last
 use Rattle.stage_flows.specs.Runs.{run}
@@ -19,7 +19,7 @@ use Rattle.hash_stage.specs.Hashing.{IsHashed}
 use Rattle.source_reads.specs.Reading.{HasRead}
 use Rattle.stage_lanes.specs.Lanes.{lane_parts, picked_from}
 use Rattle.stage_rules.specs.Chunking.{chunks_of, IsChunking}
-use Rattle.stage_rules.specs.Deciding.{IsDecidedBy}
+use Rattle.stage_rules.specs.Deciding.{IsDecidedBy, IsDeciding}
 
 -- a lane: what was dealt to it, what its stage took and has to send, and what was taken at its far
 -- end
@@ -101,3 +101,9 @@ abbrev pub IsChunkingByFlows : Type 0
 IsChunkingByFlows =
     (c : Cutting) (limit : ℕ) (reads : List (List ℕ)) (over : Option Last) (parts : List (List ℕ)) (l : Option Last)
     → IsChunking c limit reads over parts l → Sends (chunk_items c limit (run reads over)) (run parts l)
+
+-- and what the deciding stage has sent
+abbrev pub IsDecidingByFlows : Type 0
+IsDecidingByFlows =
+    (find : Fp → Option ℕ) (r : Rules) (limit : ℕ) (chunks : List NamedChunk) (over : Option Last) (parts : List (NamedChunk × How)) (l : Option Last)
+    → IsDeciding find r limit chunks over parts l → Sends (decided_items find r limit (run chunks over)) (run parts l)

@@ -2,7 +2,7 @@
 //! its rule.
 #![tactic(auto)]
 
-ghost use Rattle.pipe_laws.specs.Pipe.{IsReadBack, IsAsOne, IsChunkingByFlows};
+ghost use Rattle.pipe_laws.specs.Pipe.{IsReadBack, IsAsOne, IsChunkingByFlows, IsDecidingByFlows};
 
 /// What was taken from the far end of a pipeline is told by what its source gave, whatever the
 /// schedule.
@@ -20,4 +20,9 @@ pub fn pipe_is_as_one()
 /// flows says.
 pub fn chunking_is_by_flows()
     ensures { IsChunkingByFlows }
+{}
+
+/// What the deciding stage has sent, by its parts and its last item, is what the definition by flows says.
+pub fn deciding_is_by_flows()
+    ensures { IsDecidingByFlows }
 {}

@@ -1,4 +1,4 @@
--- What the deciding stage has to send (02, D18), by parts.
+-- What the deciding stage has to send: `decided_items` of the definition, by parts and a last item.
 use Rattle.std.specs.Prelude.{◌≡◌, ◌<◌, ◌⊎◌, Some, ◌+◌, ℕ, List, ◌++◌, length, take, nat_le, if◌then◌else◌, Option}
 use Rattle.vault_types.specs.declared.Fault.{Fault}
 use Rattle.vault_types.specs.declared.Fault.TheVariants as fault

@@ -1,6 +1,7 @@
 -- One read more, and the end.
+use Rattle.stage_lanes.proofs.Sendings.{dealt_front}
 use Rattle.std.proofs.Common.{◌≡◌, true≢false, ℕ, ◌+◌, ◌-◌, ◌≤◌, ◌<◌, ◌||◌, ⊎_elim, zero, suc, Bool, true, false, List, [], ◌∷◌, ◌++◌, length, take, inl, inr, refl, sym, ap, ◌∙◌, subst, append_assoc, append-nil, Option, Some, None, arith, length-append}
-use Rattle.std.specs.Prelude.{nat_le, cond, Result, Ok, Err, IfOk, IfSome, IfNone, IsSome, MatchResult, slice_get, nat_lt}
+use Rattle.std.specs.Prelude.{nat_le, cond, Result, Ok, Err, IfOk, IfSome, IfNone, IsSome, MatchResult}
 use Rattle.std.specs.Option.{is_some}
 use Rattle.std.proofs.lemmas.List.{take-append-le}
 use Rattle.vault_types.specs.declared.Fault.{Fault}
@@ -14,8 +15,7 @@ use Rattle.stage_lanes.specs.declared.dealer.Dealer.{Dealer}
 use Rattle.stage_rules.specs.Chunking.{IsOwnFault, read_of, last_of}
 use Rattle.chunk_stage.specs.Stage.{GoesOn, HasChunked, HasTaken, IsBack}
 use Rattle.stage_queue.specs.Ends.{Sender}
-use Rattle.stage_lanes.specs.Lanes.{after, at_lane, lane_parts, lane_after}
-use Rattle.stage_flows.specs.Runs.{closing}
+use Rattle.stage_lanes.specs.Lanes.{after}
 use Rattle.vault_types.specs.Lists.{parts, rest}
 use Rattle.vault_types.specs.Cuts.{settled_len, unsettled}
 use Rattle.vault_types.proofs.PartsLemmas.{parts-append}
@@ -29,7 +29,7 @@ use Rattle.std.proofs.Math.Seq.{take-append-add}
 use Rattle.vault_types.specs.declared.Cutting.{Cutting}
 use Rattle.vault_types.specs.declared.Fault.TheVariants as fault
 use Rattle.vault_types.specs.Cuts.{Chunker, HasCut, cuts, settled}
-use Rattle.vault_types.specs.Stages.{IsFront, as_parts}
+use Rattle.vault_types.specs.Stages.{IsFront}
 use Rattle.stage_flows.specs.declared.Last.{Last}
 use Rattle.stage_flows.specs.declared.Last.TheVariants as last
 use Rattle.stage_flows.specs.Runs.{Sent, memory, is_end}
@@ -223,36 +223,6 @@ takes c limit taken taken' x item over over' k k' count count' d d' raised raise
     step : (item : Result (List ℕ) Last) → MatchResult item (λ part. x ≡ Part part) (λ l. x ≡ item_of l) → run h.reads None ++ x ∷ [] ≡ run (h.reads ++ read_of item) (last_of item)
     step (Ok part) e = ap (λ y. run h.reads None ++ y ∷ []) e ∙ run-part h.reads part
     step (Err l) e = ap (λ y. run h.reads None ++ y ∷ []) e ∙ run-last h.reads l ∙ ap (λ q. run q (Some l)) (sym (append-nil h.reads))
-
--- what went to a lane begins what is dealt to it
-
-as_parts-append : (xs ys : List (List ℕ)) → as_parts (xs ++ ys) ≡ as_parts xs ++ as_parts ys
-as_parts-append [] ys = refl
-as_parts-append (x ∷ xs) ys = ap (λ l. Part x ∷ l) (as_parts-append xs ys)
-
-lane_parts-append : (n c j : ℕ) (xs ys : List (List ℕ)) → lane_parts n c j (xs ++ ys) ≡ lane_parts n c j xs ++ lane_parts n (lane_after n c xs) j ys
-lane_parts-append n c j [] ys = refl
-lane_parts-append n c j (x ∷ xs) ys = ap (λ l. at_lane c j x ++ l) (lane_parts-append n (after n c) j xs ys) ∙ sym (append_assoc (at_lane c j x) (lane_parts n (after n c) j xs) (lane_parts n (lane_after n (after n c) xs) j ys))
-
-pub dealt_front : (d : Dealer (List ℕ)) (given : List (List ℕ)) (l : Option Last) → HasDealt d given l → (j : ℕ) (t : Sender (Flow (List ℕ))) → slice_get d.lanes.items j ≡ Some t → IsFront t.sent (run (lane_parts (length d.lanes.items) 0 j given) l)
-dealt_front d given l h j t at = subst (λ z. IsFront z (run (lane_parts n 0 j given) l)) (sym (h.lanes j t at)) (step (nat_lt j d.told) refl)
-  where
-    n : ℕ
-    n = length d.lanes.items
-
-    step : (b : Bool) → nat_lt j d.told ≡ b → IsFront (as_parts (lane_parts (length d.lanes.items) 0 j h.dealt) ++ cond b (closing l) []) (run (lane_parts (length d.lanes.items) 0 j given) l)
-    step false e =
-        let n = length d.lanes.items in
-        let A = lane_parts n 0 j h.dealt in
-        let B = lane_parts n (lane_after n 0 h.dealt) j d.ready in
-        let whole : as_parts (lane_parts n 0 j given) ≡ as_parts A ++ as_parts B = ap (λ q. as_parts (lane_parts n 0 j q)) h.all ∙ ap as_parts (lane_parts-append n 0 j h.dealt d.ready) ∙ as_parts-append A B in
-        (as_parts B ++ closing l, ap (λ q. q ++ (as_parts B ++ closing l)) (append-nil (as_parts A)) ∙ sym (append_assoc (as_parts A) (as_parts B) (closing l)) ∙ ap (λ q. q ++ closing l) (sym whole))
-    step true e =
-        let n = length d.lanes.items in
-        let below : j < d.told = grind (arith, nat_tests) in
-        let none : d.ready ≡ [] = ⊎_elim (λ (z : d.told ≡ 0). absurd (omega arith)) (λ z. z) h.told in
-        let same : given ≡ h.dealt = h.all ∙ ap (λ q. h.dealt ++ q) none ∙ append-nil h.dealt in
-        ([], append-nil (as_parts (lane_parts n 0 j h.dealt) ++ closing l) ∙ ap (λ q. as_parts (lane_parts n 0 j q) ++ closing l) (sym same))
 
 pub is_back : (c : Cutting) (limit : ℕ) (taken : List (Flow (List ℕ))) (over : Option Last) (k : Option Chunker) (count : ℕ) (d : Dealer (List ℕ)) (raised : Bool) (lanes : List (Sender (Flow (List ℕ)))) → HasTaken c limit taken over k count d raised → lanes ≡ d.lanes.items → IsBack c limit taken over lanes raised
 is_back c limit taken over k count d raised lanes h same = subst (λ q. IsBack c limit taken over q raised) (sym same) (record {

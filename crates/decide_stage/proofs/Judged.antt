@@ -1,7 +1,8 @@
 -- What one item comes to.
+use Rattle.stage_lanes.proofs.Sendings.{dealt_front}
 use Rattle.std.proofs.Common.{◌≡◌, true≢false, ◌⊎◌, inl, inr, ⊎_elim, ℕ, ◌<◌, ◌||◌, Bool, true, false, List, [], ◌∷◌, ◌++◌, length, map, refl, sym, ap, ◌∙◌, subst, append_assoc, append-nil, Option, Some, None, arith, length-append}
 use Rattle.std.specs.List.{zip}
-use Rattle.std.specs.Prelude.{MatchOption, IsSome, Result, Ok, Err, MatchResult, slice_get, nat_lt, cond}
+use Rattle.std.specs.Prelude.{MatchOption, IsSome, Result, Ok, Err, MatchResult}
 use Rattle.std.specs.Option.{is_some}
 use Rattle.std.proofs.lemmas.List.{map-append}
 use Rattle.fp_index.specs.Index.{found_in}
@@ -17,7 +18,7 @@ use Rattle.vault_types.specs.declared.Fp.{Fp}
 use Rattle.vault_types.specs.declared.How.{How}
 use Rattle.vault_types.specs.Names.{NamedChunk, named_chunk}
 use Rattle.vault_types.specs.Decide.{Rules}
-use Rattle.vault_types.specs.Stages.{decided_parts, as_parts, IsFront}
+use Rattle.vault_types.specs.Stages.{decided_parts, IsFront}
 use Rattle.stage_flows.specs.declared.Last.{Last}
 use Rattle.stage_flows.specs.declared.Last.TheVariants as last
 use Rattle.stage_rules.specs.Chunking.{IsOwnFault}
@@ -25,13 +26,10 @@ use Rattle.stage_rules.specs.Deciding.{IsDecidedBy, IsDeciding}
 use Rattle.segment_gather.specs.Gathering.{HasGathered, HasDecidedAll, answers_of, chunks_in, places_of}
 use Rattle.segment_gather.proofs.Later.{gathered_front}
 use Rattle.decide_stage.specs.Deciding.{GoesOn, HasJudged, HasTaken, IsBack, ShortAt, chunk_of, last_in}
-use Rattle.std.proofs.lemmas.Bool.Decides.{nat_tests}
 use Rattle.stage_queue.specs.Ends.{Sender, Receiver}
 use Rattle.vault_types.specs.declared.Flow.{Flow}
-use Rattle.vault_types.specs.declared.Flow.TheVariants.{Part}
-use Rattle.stage_flows.specs.Runs.{run, closing, is_end, memory}
+use Rattle.stage_flows.specs.Runs.{is_end, memory}
 use Rattle.decide_stage.proofs.Due.{due_taken, due_stays, short_stays}
-use Rattle.stage_lanes.specs.Lanes.{after, at_lane, lane_parts, lane_after}
 use Rattle.stage_lanes.specs.Dealing.{HasPicked}
 use Rattle.stage_lanes.specs.declared.picker.Picker.{Picker}
 
@@ -253,32 +251,6 @@ begun r limit p g d raised picked gathered dealt idle = record {
     raised_is = idle;
   });
 }
-
-as_parts-append : {X : Type 0} (xs ys : List X) → as_parts (xs ++ ys) ≡ as_parts xs ++ as_parts ys
-as_parts-append [] ys = refl
-as_parts-append (x ∷ xs) ys = ap (λ l. Part x ∷ l) (as_parts-append xs ys)
-
-lane_parts-append : {X : Type 0} (n c j : ℕ) (xs ys : List X) → lane_parts n c j (xs ++ ys) ≡ lane_parts n c j xs ++ lane_parts n (lane_after n c xs) j ys
-lane_parts-append n c j [] ys = refl
-lane_parts-append n c j (x ∷ xs) ys = ap (λ l. at_lane c j x ++ l) (lane_parts-append n (after n c) j xs ys) ∙ sym (append_assoc (at_lane c j x) (lane_parts n (after n c) j xs) (lane_parts n (lane_after n (after n c) xs) j ys))
-
--- what was sent begins what was given
-dealt_front : {X : Type 0} (d : Dealer X) (given : List X) (l : Option Last) → HasDealt d given l → (j : ℕ) (t : Sender (Flow X)) → slice_get d.lanes.items j ≡ Some t → IsFront t.sent (run (lane_parts (length d.lanes.items) 0 j given) l)
-dealt_front {X} d given l h j t at = subst (λ z. IsFront z (run (lane_parts (length d.lanes.items) 0 j given) l)) (sym (h.lanes j t at)) (step (nat_lt j d.told) refl)
-  where
-    step : (b : Bool) → nat_lt j d.told ≡ b → IsFront (as_parts (lane_parts (length d.lanes.items) 0 j h.dealt) ++ cond b (closing l) []) (run (lane_parts (length d.lanes.items) 0 j given) l)
-    step false e =
-        let n = length d.lanes.items in
-        let A = lane_parts n 0 j h.dealt in
-        let B = lane_parts n (lane_after n 0 h.dealt) j d.ready in
-        let whole : as_parts (lane_parts n 0 j given) ≡ as_parts A ++ as_parts B = ap (λ q. as_parts (lane_parts n 0 j q)) h.all ∙ ap as_parts (lane_parts-append n 0 j h.dealt d.ready) ∙ as_parts-append A B in
-        (as_parts B ++ closing l, ap (λ q. q ++ (as_parts B ++ closing l)) (append-nil (as_parts A)) ∙ sym (append_assoc (as_parts A) (as_parts B) (closing l)) ∙ ap (λ q. q ++ closing l) (sym whole))
-    step true e =
-        let n = length d.lanes.items in
-        let below : j < d.told = grind (arith, nat_tests) in
-        let none : d.ready ≡ [] = ⊎_elim (λ (z : d.told ≡ 0). absurd (omega arith)) (λ z. z) h.told in
-        let same : given ≡ h.dealt = h.all ∙ ap (λ q. h.dealt ++ q) none ∙ append-nil h.dealt in
-        ([], append-nil (as_parts (lane_parts n 0 j h.dealt) ++ closing l) ∙ ap (λ q. as_parts (lane_parts n 0 j q) ++ closing l) (sym same))
 
 pub is_back : (r : Rules) (limit : ℕ) (p : Picker (List ℕ)) (goes : Bool) (g : Gatherer) (count : ℕ) (d : Dealer Decided) (raised : Bool) (lanes : List (Receiver (Flow (List ℕ)))) (outs : List (Sender (Flow Decided)))
     → HasTaken r limit p goes g count d raised → lanes ≡ p.lanes.items → outs ≡ d.lanes.items → IsBack (found_in (index_of g)) r limit lanes p.last outs raised

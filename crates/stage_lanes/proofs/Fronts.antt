@@ -33,7 +33,7 @@ module _ {X : Type 0} where
       let f = lanes_front n (after n c) xs ys (after-below n c h) rest in
       (f.0, λ i. same i ∷ f.1 i)
 
-  lane_parts-append : (n c j : ℕ) (xs ys : List X) → lane_parts n c j (xs ++ ys) ≡ lane_parts n c j xs ++ lane_parts n (lane_after n c xs) j ys
+  pub lane_parts-append : (n c j : ℕ) (xs ys : List X) → lane_parts n c j (xs ++ ys) ≡ lane_parts n c j xs ++ lane_parts n (lane_after n c xs) j ys
   lane_parts-append n c j [] ys = refl
   lane_parts-append n c j (x ∷ xs) ys = ap (λ l. at_lane c j x ++ l) (lane_parts-append n (after n c) j xs ys) ∙ sym (append_assoc (at_lane c j x) (lane_parts n (after n c) j xs) (lane_parts n (lane_after n (after n c) xs) j ys))
 

@@ -30,7 +30,7 @@ use Rattle.vault_types.proofs.NextLemmas.{ids_below}
 use Rattle.vault_types.proofs.SetLemmas.{IsAscending-set_of}
 use Rattle.fp_index.specs.Index.{found_in}
 use Rattle.har_monitor.proofs.Callers.{sparse_few, sparse_ascending, sparse_used}
-use Rattle.container_fill.proofs.SumLemmas.{fp-is_fp}
+use Rattle.vault_types.proofs.SumLemmas.{fp-is_fp}
 use Rattle.vault_types.specs.JobRanges.{IsCuttable}
 use Rattle.backup_pass.proofs.Decisions.{decide_in_turn}
 use Rattle.commit_laws.proofs.Listing.{found_is}
@@ -40,7 +40,7 @@ use Rattle.backup_jobs.specs.declared.opening.Job.{Job}
 use Rattle.backup_jobs.specs.Going.{Began, IsOf, IsJobOf, HasEnded, IsReady, chunks_of, made, rules_of, len_at}
 use Rattle.backup_jobs.proofs.Chunks.{hows, written, written_pieces, made_numbered, made_few, made_rows, cuts_are_chunks}
 use Rattle.backup_jobs.proofs.Sparses.{sparse_found}
-use Rattle.backup_jobs.proofs.Newest.{found-newest}
+use Rattle.fp_index.proofs.Tables.{found-newest}
 use Rattle.backup_jobs.proofs.Rows.{rows_fps, rows_lens, rows_each, taker_found, taker_below, found_later, apart_writes, written_rows, pieces_filled, all_used, AreApart}
 
 -- what the job makes of a stream is what the definition makes of it

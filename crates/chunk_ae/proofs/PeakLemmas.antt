@@ -4,7 +4,8 @@ use Rattle.std.specs.Prelude.{◌≢◌, nat_le, nat_lt, min, max}
 use Rattle.std.proofs.lemmas.Bool.Decides.{nat_tests}
 use Rattle.vault_types.specs.Cuts.{value_at, is_peak, is_unbeaten, ends_at}
 use Rattle.chunk_ae.specs.Scans.{IsPeak}
-use Rattle.chunk_ae.proofs.EndLemmas.{value_at-append, list_all-holds, list_all-fails}
+use Rattle.chunk_ae.proofs.EndLemmas.{list_all-holds, list_all-fails}
+use Rattle.vault_types.proofs.CutLemmas.{value_at-append}
 use Rattle.chunk_ae.proofs.ValueLemmas.{AreBytes, bytes-more, value-next}
 
 pub peak-start : (w m : ℕ) → w < m → IsPeak w m [] 0 0 (w + 1)

@@ -10,7 +10,8 @@ use Rattle.vault_types.specs.Cuts.{ends_at, settled_len}
 use Rattle.chunk_ae.specs.declared.scan.Scan.{Scan}
 use Rattle.std.proofs.Math.Seq.{take-length}
 use Rattle.chunk_ae.specs.Scans.{IsPeak, IsScan, IsEnd}
-use Rattle.chunk_ae.proofs.EndLemmas.{ends_at-append, find-none, find-last}
+use Rattle.chunk_ae.proofs.EndLemmas.{find-none, find-last}
+use Rattle.vault_types.proofs.CutLemmas.{ends_at-append}
 use Rattle.chunk_ae.proofs.PeakLemmas.{peak-start, peak-new, peak-old, ends-no, ends-yes}
 
 -- what has no end so far has none settled

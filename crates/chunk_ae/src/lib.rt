@@ -6,7 +6,7 @@ ghost use Rattle.std.specs.Prelude.{◌≡◌, ℕ, ◌<◌, ◌≤◌, List, []
 ghost use Rattle.std.specs.List.{concat};
 ghost use Rattle.vault_types.specs.declared.Cutting.TheVariants as cutting;
 ghost use Rattle.vault_types.specs.Cuts.{cuts, settled, unsettled, only_bytes, HasCut};
-ghost use Rattle.chunk_ae.specs.Held.{held_bytes};
+ghost use Rattle.vault_types.specs.Feeds.{held_bytes};
 
 mod scan;
 mod step;
@@ -33,7 +33,7 @@ impl Model for Ae {
 
     ghost Value = { Chunker };
 
-    ghost use Rattle.chunk_ae.specs.Held.{held_bytes};
+    ghost use Rattle.vault_types.specs.Feeds.{held_bytes};
     ghost use Rattle.chunk_ae.specs.Scans.{IsScan};
 
     ghost view = { λ a. record { cutting = cutting.Ae a.window a.max; held = held_bytes a.held } };

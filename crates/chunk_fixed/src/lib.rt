@@ -26,7 +26,8 @@ impl Model for Fixed {
 
     ghost Value = { Chunker };
 
-    ghost use Rattle.chunk_fixed.specs.Held.{held_bytes, IsHeld};
+    ghost use Rattle.vault_types.specs.Feeds.{held_bytes};
+    ghost use Rattle.chunk_fixed.specs.Held.{IsHeld};
 
     ghost view = { λ f. record { cutting = cutting.Fixed f.size; held = held_bytes f.held } };
 

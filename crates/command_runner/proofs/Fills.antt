@@ -18,7 +18,8 @@ use Rattle.store_model.specs.Script.{RunsLines}
 use Rattle.store_model.specs.Strays.{StraysOf}
 use Rattle.store_model.specs.Filling.{AreGenerated, RunsFill, output_of, outputs_text}
 use Rattle.store_model.specs.World.{World, IsPrinted, report_text}
-use Rattle.report_printer.proofs.Written.{takes_nothing, takes_then, front_behind}
+use Rattle.vault_traits.proofs.Written.{takes_nothing, takes_then}
+use Rattle.report_printer.proofs.Written.{front_behind}
 use Rattle.workload.specs.Places.{Filling, file_at, source_name, told_of}
 
 -- a text that was cut off is cut off in front of another

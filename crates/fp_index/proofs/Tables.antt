@@ -9,11 +9,11 @@ use Rattle.vault_types.specs.declared.TableRow.{TableRow}
 use Rattle.std.specs.Global.{Vec}
 use Rattle.vault_types.specs.Lists.{has, set_of, with_number, greatest}
 use Rattle.vault_types.specs.Tables.{has_fp, newest}
-use Rattle.vault_types.proofs.SetLemmas.{has-set_of, has-with_number, IsAscending-set_of, IsAscending-with_number, ascending_unique}
+use Rattle.vault_types.proofs.SetLemmas.{greatest-set_of, has-set_of, has-with_number, IsAscending-set_of, IsAscending-with_number, ascending_unique}
 use Rattle.fp_index.specs.Index.{IsIndexOf, IsOnlyOne, ids_at, ids_of, found_in, without_id}
 use Rattle.fp_index.specs.Lists.{lists, ids_in, row_has, without}
 use Rattle.fp_index.proofs.Entries.{AreDone}
-use Rattle.fp_index.proofs.Ids.{greatest-set_of, has-without, without-none, IsAscending-without}
+use Rattle.fp_index.proofs.Ids.{has-without, without-none, IsAscending-without}
 
 abbrev holders : List Table → Fp → List ℕ
 holders tables f = map (λ t. t.id) (filter (has_fp f) tables)

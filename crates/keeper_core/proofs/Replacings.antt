@@ -34,7 +34,7 @@ use Rattle.commit_laws.proofs.Listing.{some_same, none_some}
 use Rattle.commit_laws.proofs.Unique.{kept_rules, kept_number, with_whole, without_whole, plain_of}
 use Rattle.keeper_jobs.specs.Jobs.{Sees}
 use Rattle.keeper_jobs.proofs.Seeing.{not_failed, failed_same}
-use Rattle.container_fill.proofs.SumLemmas.{fp-is_fp}
+use Rattle.vault_types.proofs.SumLemmas.{fp-is_fp}
 use Rattle.recipe_replacement.specs.Replacing.{IsRecipeOf, IsRecipeOfIfTold, waits_after}
 use Rattle.keeper_core.specs.Replacing.{IsRefused}
 use Rattle.keeper_core.proofs.Openings.{says_version}

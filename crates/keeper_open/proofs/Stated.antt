@@ -35,7 +35,7 @@ use Rattle.keeper_open.specs.Reading.{SetRead, AreRecipes, AreRead, IsSetRead, A
 use Rattle.keeper_open.proofs.Noting.{cons_cases, first_in, later_in, none_in, same_chunks, chunk_self}
 use Rattle.keeper_open.proofs.Gathering.{some_at, at_below, in_place, place_of, recipe_read, set_at, all_in, mapped_in}
 use Rattle.keeper_open.proofs.Damaging.{floor_version}
-use Rattle.keeper_open.proofs.SumBytes.{fp-is_fp}
+use Rattle.vault_types.proofs.SumLemmas.{fp-is_fp}
 
 abbrev pub container_of : Option Blobs → Table → Container
 container_of told t = record { table = t; payload = blob_at told (payload_name t.id) }

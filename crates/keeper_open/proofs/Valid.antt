@@ -31,7 +31,7 @@ use Rattle.keeper_open.specs.Reading.{SetRead, AreRecipes, IsSetRead, AreSets, A
 use Rattle.keeper_open.proofs.Noting.{cons_cases, first_in, later_in, none_in}
 use Rattle.keeper_open.proofs.Gathering.{some_at, recipe_read, set_at, mapped_in, all_in}
 use Rattle.keeper_open.proofs.Damaging.{floor_version}
-use Rattle.keeper_open.proofs.SumBytes.{fp-is_fp}
+use Rattle.vault_types.proofs.SumLemmas.{fp-is_fp}
 use Rattle.keeper_open.proofs.Stated.{container_of, containers_in, dataset_of, state_of, all_from, length_map, all_rows_are, container_found, ids_back, row_stands, dataset_is, version_is, version_back, located, recipe_among, set_in, in_set, map_at}
 
 -- datasets

@@ -15,14 +15,7 @@ pub fn write_all<O: Sink>(text: &[u8], out: &mut O) -> Result<(), Failed>
     ensures err { OnErr result (Rose (O.told out.old).faults (O.told out.new).faults × TakesFront (O.told out.old) (O.told out.new) text.now) }
     ensures later { (O.told out.old).faults ≤ (O.told out.new).faults }
 {
-    let mut done = 0;
-    while done < text.len() {
-        match out.write(&text[done..]) {
-            Ok(n) => done += n,
-            Err(Failed) => return Err(Failed),
-        }
-    }
-    Ok(())
+    vault_traits::write_all(text, out)
 }
 
 // Prints the line of an answer.

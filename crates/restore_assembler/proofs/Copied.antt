@@ -19,15 +19,16 @@ use Rattle.vault_types.specs.declared.Why.TheVariants as why
 use Rattle.vault_types.specs.Names.{fp}
 use Rattle.vault_traits.specs.Counts.{Rose}
 use Rattle.vault_traits.specs.Told.{SinkTold, Takes}
+use Rattle.vault_traits.specs.CutOff.{IsCutOff}
 use Rattle.fingerprint_stage.specs.declared.running_sum.RunningSum.{RunningSum}
 use Rattle.restore_assembler.specs.declared.payload.Payload.{Payload}
 use Rattle.restore_assembler.specs.declared.progress.Progress.{Progress}
 use Rattle.restore_assembler.specs.Payloads.{AreKnown, AreCovering, ids_of, first_id}
-use Rattle.restore_assembler.specs.Writing.{IsSumOf, IsCutOff}
+use Rattle.restore_assembler.specs.Writing.{IsSumOf}
 use Rattle.restore_assembler.specs.Copying.{wanted, next_load, HasCopied, IsTakenAt, version_bytes, done_bytes}
 use Rattle.restore_assembler.specs.Progress.{left_of, left_bytes, starts_with_load, IsGoing, IsReady, IsCopied, Advances, seen_of}
 use Rattle.restore_assembler.proofs.Runs.{run_parts, requests_run}
-use Rattle.restore_assembler.proofs.Written.{takes_then}
+use Rattle.vault_traits.proofs.Written.{takes_then}
 
 -- the payloads that are present once the wanted one is
 pub known_loaded : (f : ℕ → List ℕ) (p q : Progress) (id : ℕ) (payload : Vec ℕ Global) → q.present.items ≡ record { id = id; bytes = payload } ∷ p.present.items

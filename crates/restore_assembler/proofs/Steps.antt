@@ -16,7 +16,8 @@ use Rattle.belady_cache.proofs.Steps.{serves_evict, serves_next, loads_cons}
 use Rattle.restore_assembler.specs.declared.payload.Payload.{Payload}
 use Rattle.restore_assembler.specs.declared.progress.Progress.{Progress}
 use Rattle.restore_assembler.specs.Payloads.{ids_of, without, AreCovering, AreKnown, Covers, run_of, first_id}
-use Rattle.restore_assembler.specs.Writing.{IsWritten, IsCutOff}
+use Rattle.vault_traits.specs.CutOff.{IsCutOff}
+use Rattle.restore_assembler.specs.Writing.{IsWritten}
 use Rattle.restore_assembler.specs.Progress.{left_of, left_bytes, IsGoing, IsCopied, Advances, starts_with_load}
 use Rattle.restore_assembler.proofs.Runs.{requests_run, run_parts}
 use Rattle.restore_assembler.proofs.Written.{written_nothing, written_then, cut_off_then}

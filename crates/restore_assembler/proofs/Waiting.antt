@@ -7,7 +7,8 @@ use Rattle.vault_types.specs.declared.Spot.{Spot}
 use Rattle.vault_types.specs.Bytes.{spot_bytes}
 use Rattle.vault_traits.specs.Told.{SinkTold}
 use Rattle.fingerprint_stage.specs.declared.running_sum.RunningSum.{RunningSum}
-use Rattle.restore_assembler.specs.Writing.{IsWritten, IsCutOff, IsWaiting}
+use Rattle.vault_traits.specs.CutOff.{IsCutOff}
+use Rattle.restore_assembler.specs.Writing.{IsWritten, IsWaiting}
 use Rattle.restore_assembler.proofs.Written.{written_nothing, written_then, cut_off_then, cut_off_before}
 
 abbrev pub bytes_in : List ℕ → Spot → List ℕ

@@ -13,7 +13,8 @@ ghost use Rattle.vault_types.specs.Plans.{loads as loads_of};
 ghost use Rattle.vault_traits.specs.Counts.{Rose};
 ghost use Rattle.vault_traits.specs.Told.{SinkTold};
 ghost use Rattle.restore_assembler.specs.Payloads.{ids_of, Covers, AreCovering, AreKnown, run_of, first_id};
-ghost use Rattle.restore_assembler.specs.Writing.{IsSumOf, IsWritten, IsCutOff};
+ghost use Rattle.vault_traits.specs.CutOff.{IsCutOff};
+ghost use Rattle.restore_assembler.specs.Writing.{IsSumOf, IsWritten};
 ghost use Rattle.restore_assembler.specs.Copying.{wanted as wanted_of, IsWanted, IsCovered, HasCopied, IsCause, IsTakenAt, version_bytes};
 ghost use Rattle.restore_assembler.specs.Progress.{left_of, left_bytes, starts_with_load, IsGoing, IsReady, IsSumming, Advances, seen_of};
 

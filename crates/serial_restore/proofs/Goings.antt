@@ -28,7 +28,7 @@ use Rattle.vault_traits.specs.Causes.{IsCause}
 use Rattle.keeper_catalog.specs.View.{View, Keeps, HasCore}
 use Rattle.commit_laws.proofs.Listing.{some_same}
 use Rattle.keeper_core.specs.Calls.{HasListed, IsPinned, IsPinDamage, IsWholeOf}
-use Rattle.restore_assembler.proofs.Written.{takes_nothing}
+use Rattle.vault_traits.proofs.Written.{takes_nothing}
 use Rattle.store_model.specs.Calls.{IsShortAt}
 use Rattle.serial_restore.specs.Going.{Stays, HasPinned, IsCopied, IsStopped, IsAtMostLeast}
 use Rattle.serial_restore.specs.Restoring.{whole_of, IsRestoreFault, IsLeft, IsCut, HasGone}

@@ -29,7 +29,7 @@ use Rattle.vault_traits.specs.Crash.{History, LeavesNowIfTold, LeavesOnlyIfTold}
 use Rattle.vault_traits.specs.Told.{SinkTold}
 use Rattle.vault_traits.proofs.Maps.{same_blobs}
 use Rattle.vault_traits.proofs.Moments.{ends, more}
-use Rattle.restore_assembler.proofs.Written.{takes_nothing}
+use Rattle.vault_traits.proofs.Written.{takes_nothing}
 use Rattle.keeper_catalog.specs.View.{View, Keeps, HasCore}
 use Rattle.commit_laws.proofs.Listing.{itself, same_number}
 use Rattle.vault_types.specs.BlobDamage.{IsPayloadDamage}

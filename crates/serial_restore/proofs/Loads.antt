@@ -30,7 +30,7 @@ use Rattle.state_laws.proofs.Members.{of_map, in_map}
 use Rattle.restore_assembler.specs.Copying.{Copying, wanted, IsCovered, IsWanted, HasCopied, IsTakenAt, version_bytes}
 use Rattle.restore_assembler.specs.Copying as copying
 use Rattle.restore_assembler.specs.Payloads.{Covers, Fits}
-use Rattle.restore_assembler.proofs.Written.{takes_nothing}
+use Rattle.vault_traits.proofs.Written.{takes_nothing}
 use Rattle.serial_restore.specs.Going.{Stays, HasPinned, AreGiven, IsFull, IsFullAt, IsLoadOf, TakesFront, IsWrongSum, IsCopyFault, IsFoundOf, HasSum, LoadsOne, StopsAt, Underway, HasDone, IsCopied, IsStopped, IsAtMostLeast}
 use Rattle.belady_cache.proofs.Steps.{loads_append}
 use Rattle.serial_restore.proofs.Plans.{rule_loads, next_among, wanted_next, wanted_loads, one_loaded, loads_parts, front_serves, all_loaded, all_loads, at_most}

@@ -4,7 +4,7 @@ use Rattle.vault_types.specs.State.{State}
 use Rattle.vault_types.specs.Events.{Change}
 use Rattle.serial_delete.specs.Keeping.{IsStateOf}
 use Rattle.serial_migrate.specs.Going.{Stopped, IsMigrateFault}
-use Rattle.container_fill.proofs.SumLemmas.{fp-is_fp}
+use Rattle.vault_types.proofs.SumLemmas.{fp-is_fp}
 use Rattle.serial_migrate.proofs.Ones.{kept_after, whole_here, summed_here, stopped_here, fault_here}
 use Rattle.serial_migrate.proofs.one.sum_of.Goals as goal
 

@@ -2,7 +2,8 @@ use Rattle.std.proofs.Common.{ℕ, List, drop, take, flat_map, subst}
 use Rattle.std.proofs.lemmas.Result.{err_from_is_err_and}
 use Rattle.vault_types.specs.Bytes.{spot_bytes}
 use Rattle.restore_assembler.specs.Payloads.{run_of, first_id}
-use Rattle.restore_assembler.specs.Writing.{IsWritten, IsCutOff}
+use Rattle.vault_traits.specs.CutOff.{IsCutOff}
+use Rattle.restore_assembler.specs.Writing.{IsWritten}
 use Rattle.restore_assembler.proofs.Runs.{run_found, bytes_found, next_within, next_bytes, run_parts}
 use Rattle.restore_assembler.proofs.Written.{cut_off_before}
 use Rattle.restore_assembler.proofs.progress.Progress.serve.Goals as goal

@@ -1,6 +1,6 @@
 use Rattle.std.proofs.Common.{◌≤◌, ◌-◌, length, take}
 use Rattle.vault_traits.specs.Told.{Takes}
-use Rattle.restore_assembler.proofs.writing.write_all.Given as goal
+use Rattle.vault_traits.proofs.writing.write_all.Given as goal
 
 abbrev pub decreases-loop-done : goal.decreases-loop-done
 decreases-loop-done g l = length l.bytes - l.done

@@ -1,6 +1,6 @@
 use Rattle.std.proofs.Common.{arith}
-use Rattle.restore_assembler.proofs.Written.{takes_more, within_more, cut_off}
-use Rattle.restore_assembler.proofs.writing.write_all.Goals as goal
+use Rattle.vault_traits.proofs.Written.{takes_more, within_more, cut_off}
+use Rattle.vault_traits.proofs.writing.write_all.Goals as goal
 
 pub loop-done-preserved : goal.loop-done-preserved
 loop-done-preserved g c =

@@ -37,7 +37,7 @@ use Rattle.commit_laws.proofs.Listing.{found_is}
 use Rattle.keeper_catalog.specs.View.{View, Keeps}
 use Rattle.backup_jobs.specs.declared.closing.Ended.{Ended}
 use Rattle.backup_jobs.specs.declared.opening.Job.{Job}
-use Rattle.backup_jobs.specs.Going.{Began, IsOf, IsJobOf, HasEnded, IsReady, chunks_of, made, rules_of, len_at}
+use Rattle.backup_jobs.specs.Going.{Began, IsBegunAt, IsJobOf, HasEnded, IsReady, chunks_of, made, rules_of, len_at}
 use Rattle.backup_jobs.proofs.Chunks.{hows, written, written_pieces, made_numbered, made_few, made_rows, cuts_are_chunks}
 use Rattle.backup_jobs.proofs.Sparses.{sparse_found}
 use Rattle.fp_index.proofs.Tables.{found-newest}
@@ -48,7 +48,7 @@ use Rattle.backup_jobs.proofs.Rows.{rows_fps, rows_lens, rows_each, taker_found,
 filled_by : JobConfig → List NamedChunk → ℕ → (Fp → Option ℕ) → List ℕ → Filled
 filled_by config chunks next find avoided = fill next chunks (decide find (record { sparse = avoided; config = config }) chunks) config.container
 
-pub made_is : (b : Began) (S : State) (x : List ℕ) → IsOf b S → filling S b.set (chunks_of b.config x) b.config ≡ made b x
+pub made_is : (b : Began) (S : State) (x : List ℕ) → IsBegunAt b S → filling S b.set (chunks_of b.config x) b.config ≡ made b x
 unfolding filled_by
 made_is b S x h =
     ap (λ n. filled_by b.config (chunks_of b.config x) n (index S) (inherited_ids S b.set)) (sym h.first)
@@ -75,7 +75,7 @@ places b x = decisions (rules_of b) [] (segments (found_in b.index) b.config (ch
 abbrev IsPlace : Began → State → List ℕ → Fp → ℕ → Type 0
 IsPlace b S x f id = (1 ≤ id) × (id < b.first + length (made b x).containers) × IsSomeAnd (container_in (S.containers ++ (made b x).containers) id) (λ k. IsTrue (has_fp f k.table))
 
-module _ (b : Began) (S : State) (x : List ℕ) (h : IsOf b S) (valid : IsValid S) (low : 1 ≤ b.first) where
+module _ (b : Began) (S : State) (x : List ℕ) (h : IsBegunAt b S) (valid : IsValid S) (low : 1 ≤ b.first) where
   abbrev IsOld : Container → Type 0
   IsOld k = IsTable k.table × (k.table.id < next_of S)
 

@@ -13,7 +13,7 @@ use Rattle.vault_types.specs.State.{State, KeptVersion, IsValid, latest_of, next
 use Rattle.vault_types.specs.Backup.{backup, stored}
 use Rattle.vault_types.specs.Shelf.{table_name, payload_name, recipe_name, Stands}
 use Rattle.vault_types.specs.Events.{Core, Change, IsNear, after_refused}
-use Rattle.vault_traits.specs.Told.{SourceTold, Gives}
+use Rattle.vault_traits.specs.Told.{SourceTold, Gives, IsAtEnd}
 use Rattle.vault_traits.specs.Crash.{LeavesNowIfTold, LeavesOnlyIfTold}
 use Rattle.vault_traits.specs.Counts.{Rose}
 use Rattle.vault_types.specs.RecipeForms.{IsSecond, KeepsRecipes}
@@ -23,10 +23,6 @@ use Rattle.keeper_core.specs.Calls.{IsShelfFault}
 -- the number of a fault lies above the count before, and not above the count now
 abbrev pub IsNumber : ℕ → ℕ → ℕ → Type 0
 IsNumber before n now = Rose before n × (n ≤ now)
-
--- nothing is left
-abbrev pub IsAtEnd : SourceTold → Type 0
-IsAtEnd to = IfSome to.left (λ rest. rest ≡ [])
 
 -- why a backup is refused that may be made, where these bytes were read: there are too many chunks where so many have an
 -- end, where there are so many at the end, or where there are more bytes than the limit of chunks can have
@@ -71,7 +67,7 @@ MayBeStray s limits v K f n =
 
 -- after a refusal the versions and the pins are as they were, and there is no job. A crash at any moment leaves what it
 -- could leave before or with what is half done now, and one behind it only the latter
-pub record IsRefused (s : ℕ) (config : JobConfig) (limits : Limits) (read : List ℕ) (v w : View) (from to : SourceTold) (K : Core) (f : Fault) : Type 0 where
+pub record IsBackupRefused (s : ℕ) (config : JobConfig) (limits : Limits) (read : List ℕ) (v w : View) (from to : SourceTold) (K : Core) (f : Fault) : Type 0 where
   pub other : Option Change
   pub keeps : Keeps w (after_refused other None w.memo.strays w.pending K)
   pub half : MayBeHalf s config read from to K f other
@@ -97,7 +93,7 @@ pub record BacksUp (s : ℕ) (config : JobConfig) (limits : Limits) (v w : View)
   pub causes : IfErr result (λ f. (K : Core) → Keeps v K → IsCauseOf s config limits v w from to read K f)
   -- the store: with the version, where it is done, and else with those that it had
   pub done : OnOk result ((K : Core) → Keeps v K → Keeps w (after_backup s read config w.memo.strays w.pending K))
-  pub refused : IfErr result (λ f. (K : Core) → Keeps v K → IsRefused s config limits read v w from to K f)
+  pub refused : IfErr result (λ f. (K : Core) → Keeps v K → IsBackupRefused s config limits read v w from to K f)
   pub idle : w.job ≡ None
   pub pins : w.pins ≡ v.pins
   pub strays : OnOk result ((n : Name) → Contains w.memo.strays n → Contains v.memo.strays n)

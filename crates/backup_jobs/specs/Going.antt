@@ -18,7 +18,7 @@ use Rattle.vault_types.specs.Tables.{Container, payload_len}
 use Rattle.vault_types.specs.State.{State, latest_of, next_of, container_in, is_full}
 use Rattle.vault_types.specs.Backup.{inherited_ids, version_from, stored}
 use Rattle.vault_types.specs.Events.{Core, Job as OpenJob, IsContainerName, IsNear, CanCommit, after_refused}
-use Rattle.vault_traits.specs.Told.{SourceTold, Gives}
+use Rattle.vault_traits.specs.Told.{SourceTold, Gives, IsAtEnd}
 use Rattle.vault_traits.specs.Crash.{LeavesNowIfTold, LeavesOnlyIfTold}
 use Rattle.fp_index.specs.Index.{found_in, IsIndexOf}
 use Rattle.rewrite_stage.specs.declared.Decided.{Decided}
@@ -31,7 +31,7 @@ use Rattle.backup_jobs.specs.declared.closing.Rest.{Rest}
 use Rattle.backup_jobs.specs.declared.closing.Ended.{Ended}
 use Rattle.backup_jobs.specs.declared.opening.Job.{Job}
 use Rattle.backup_jobs.specs.declared.opening.Opened.{Opened}
-use Rattle.backup_jobs.specs.Backup.{IsNumber, IsAtEnd, IsBackupFault, IsJobName}
+use Rattle.backup_jobs.specs.Backup.{IsNumber, IsBackupFault, IsJobName}
 
 -- what a backup began with: the set, the number of its version, the settings, the first free id, the sparse list and the
 -- index that it was told, and the keeper and the source as they were
@@ -47,7 +47,7 @@ pub record Began : Type 0 where
   pub source : SourceTold
 
 -- what it was told is that of the state
-pub record IsOf (b : Began) (S : State) : Type 0 where
+pub record IsBegunAt (b : Began) (S : State) : Type 0 where
   pub version : b.version ≡ latest_of S b.set + 1
   pub first : b.first ≡ next_of S
   pub sparse : b.sparse ≡ inherited_ids S b.set
@@ -73,7 +73,7 @@ pub record AreNamed (before now : View) (containers : List Container) : Type 0 w
 -- the job has put these containers. Its set was not full
 pub record IsUnderway (b : Began) (now : View) (containers : List Container) : Type 0 where
   pub core : HasCore b.keeper
-  pub told : (K : Core) → Keeps b.keeper K → IsOf b K.state
+  pub told : (K : Core) → Keeps b.keeper K → IsBegunAt b K.state
   pub roomy : (K : Core) → Keeps b.keeper K → is_full K.state b.set b.limits ≡ false
   pub set : b.set < 256
   pub version : b.version ≤ 4294967294
@@ -136,7 +136,7 @@ pub record IsStopped (b : Began) (now : View) (to : SourceTold) (f : Fault) : Ty
   pub cause : IsBackupFault b.config b.limits b.keeper.told.faults now.told.faults b.source to read f
 
 -- these parts went into the filler, and the containers that it gave out are put
-pub record IsFilling (b : Began) (now : View) (f : Filling) (lens : List ℕ) (parts : List (NamedChunk × How)) : Type 0 where
+pub record HasFilledParts (b : Began) (now : View) (f : Filling) (lens : List ℕ) (parts : List (NamedChunk × How)) : Type 0 where
   pub containers : List Container
   pub underway : IsUnderway b now containers
   pub waits : now.pending ≡ pending.Not

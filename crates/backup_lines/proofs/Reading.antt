@@ -9,10 +9,10 @@ use Rattle.vault_types.specs.declared.Fault.TheVariants as fault
 use Rattle.vault_types.specs.Lists.{parts, rest}
 use Rattle.vault_types.specs.Cuts.{cuts, settled, settled_len, unsettled, only_bytes}
 use Rattle.vault_types.proofs.PartsLemmas.{parts-append}
-use Rattle.vault_traits.specs.Told.{SourceTold, Gives}
+use Rattle.vault_traits.specs.Told.{SourceTold, Gives, IsAtEnd}
 use Rattle.vault_types.specs.JobRanges.{IsCuttable}
 use Rattle.vault_types.proofs.CutLemmas.{settled_len-stable}
-use Rattle.backup_jobs.specs.Backup.{IsAtEnd, IsBackupFault}
+use Rattle.backup_jobs.specs.Backup.{IsBackupFault}
 use Rattle.backup_jobs.proofs.Limits.{too_many_bytes}
 
 -- the settled chunks of a front are no more than the chunks of the whole

@@ -8,7 +8,7 @@ ghost use Rattle.vault_types.specs.Decide.{Rules, decide, decisions_of};
 ghost use Rattle.vault_types.specs.Fill.{fill};
 ghost use Rattle.rewrite_stage.specs.Deciding.{HasDecided, looked_up};
 ghost use Rattle.container_fill.specs.Filling.{HasFilled, IsFilledBy};
-ghost use Rattle.backup_pass.specs.Placing.{HasPlaced, chunk_in, hows_of, hows_at, answers_of, index_of};
+ghost use Rattle.backup_pass.specs.Placing.{HasPlaced, decided_chunk, hows_of, hows_at, answers_of, index_of};
 
 use container_fill::{Filled, Filler};
 use container_store::Sealed;
@@ -38,7 +38,7 @@ fn fill_all(
 ) -> Result<(), Memory>
     ensures filled { (first : ℕ) (gone : List Container) (chunks : List NamedChunk) (hows : List Hows)
         → HasFilled filler.old first (gone ++ out.old.items) chunks hows
-        → OnOk result (HasFilled filler.new first (gone ++ out.new.items) (chunks ++ map chunk_in decided.items) (hows ++ hows_of decided.items)) }
+        → OnOk result (HasFilled filler.new first (gone ++ out.new.items) (chunks ++ map decided_chunk decided.items) (hows ++ hows_of decided.items)) }
     ensures capacity { OnOk result (filler.new.capacity ≡ filler.old.capacity) }
 {
     for one in decided {

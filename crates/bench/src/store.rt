@@ -1,6 +1,6 @@
 // A store of many versions.
 ghost use Rattle.std.specs.Prelude.{IfOk};
-ghost use Rattle.keeper_driver.specs.Drafts.{IsIdle};
+ghost use Rattle.keeper_driver.specs.Drafts.{HasNoJob};
 
 use crate::watch::{Stop, nanos};
 use keeper_core::Keeper;
@@ -27,8 +27,8 @@ fn add_version(
     number: u32,
     size: usize,
 ) -> Result<(), Stop>
-    requires { IsIdle keeper.old }
-    ensures { IsIdle keeper.new }
+    requires { HasNoJob keeper.old }
+    ensures { HasNoJob keeper.new }
 {
     let bytes = payload(alloc, number, 1000)?;
     let payloads: Vec<&[u8]> = bytes.chunks(size.max(1)).collect(alloc)?;
@@ -37,7 +37,7 @@ fn add_version(
 }
 
 fn opened(alloc: Global, shelf: MemShelf) -> Result<Keeper<MemShelf>, Stop>
-    ensures { IfOk result IsIdle }
+    ensures { IfOk result HasNoJob }
 {
     match Keeper::start(alloc, shelf) {
         Ok(keeper) => Ok(keeper),
@@ -47,7 +47,7 @@ fn opened(alloc: Global, shelf: MemShelf) -> Result<Keeper<MemShelf>, Stop>
 
 // A store of so many versions, of which the first has ten containers, and each other one a container of its own.
 fn store_of(alloc: Global, versions: u32) -> Result<Keeper<MemShelf>, Stop>
-    ensures { IfOk result IsIdle }
+    ensures { IfOk result HasNoJob }
 {
     let mut keeper = opened(alloc, MemShelf::new(alloc))?;
     add_version(alloc, &mut keeper, 0, 400)?;

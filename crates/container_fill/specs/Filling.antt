@@ -76,7 +76,7 @@ places_of (c ∷ cs) [] = []
 places_of (c ∷ cs) (h ∷ hows) = (c.fp, h) ∷ places_of cs hows
 
 -- the chunks and what was done with each, where these containers were given out and the last one is held
-pub record Keeps (f : Filling) (first : ℕ) (gone : List Container) (chunks : List NamedChunk) (done : List How) : Type 0 where
+pub record HasPacked (f : Filling) (first : ℕ) (gone : List Container) (chunks : List NamedChunk) (done : List How) : Type 0 where
   pub count : length chunks ≡ length done
   pub next : f.next ≡ first + length gone
   pub taken : (g : Fp) → taken_by f g ≡ place_of (gone ++ opened f.next f.held) g
@@ -94,7 +94,7 @@ pub record HasFilled (f : Filling) (first : ℕ) (gone : List Container) (chunks
   pub gone_are : gone ≡ new_containers first full
   pub packed : ArePacked f.capacity (writes chunks (carried chunks hows)) full (map named_chunk f.held)
   pub count : length chunks ≡ length hows
-  pub keeps : Keeps f first gone chunks (carried chunks hows)
+  pub keeps : HasPacked f first gone chunks (carried chunks hows)
 
 -- the container that is held is given out
 abbrev pub closed_with : List (List ℕ) → Filling → Filling

@@ -28,7 +28,3 @@ pub record AreStraysReleased (K : Core) (number : ℕ) (strays : List Name) : Ty
   pub only : (q : Name) → Contains strays q → Contains K.strays q ⊎ IsReleased K number q
   pub before : (q : Name) → Contains K.strays q → Contains strays q
   pub gone : (q : Name) → IsReleased K number q → Contains strays q
-
--- pins that list one id list one container
-abbrev pub AreAlike : List Pin → Type 0
-AreAlike pins = (c d : Container) → Contains (pinned_containers pins) c → Contains (pinned_containers pins) d → c.table.id ≡ d.table.id → c ≡ d

@@ -17,7 +17,8 @@ ghost use Rattle.vault_traits.specs.Crash.{LeavesNowIfTold, LeavesOnlyIfTold};
 ghost use Rattle.state_laws.specs.Parts.{HeldIfTold, IsIdle, CanClean, with_strays};
 ghost use Rattle.keeper_catalog.specs.Catalog.{set_info, listed, table_at, AreTables, AreMarks};
 ghost use Rattle.deletion_laws.specs.Deleting.{pinned_ids, without_ids, AreStraysAfter};
-ghost use Rattle.deletion_laws.specs.Releasing.{is_released, IsReleased, AreStraysReleased, AreAlike};
+ghost use Rattle.keeper_catalog.specs.View.{AreAlike};
+ghost use Rattle.deletion_laws.specs.Releasing.{is_released, IsReleased, AreStraysReleased};
 ghost use Rattle.deletion_laws.specs.Removal.{AreIdle};
 
 use vault_traits::Shelf;

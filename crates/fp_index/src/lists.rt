@@ -3,7 +3,7 @@ ghost use Rattle.std.specs.Prelude.{◌≡◌, List, [], OnOk, IsTrue, if◌then
 ghost use Rattle.vault_types.specs.declared.Fp.{Fp as Key};
 ghost use Rattle.vault_types.specs.Lists.{with_number, IsAscending};
 ghost use Rattle.vault_types.specs.Names.{same_fp};
-ghost use Rattle.fp_index.specs.Lists.{ids_in, row_has, without, AllAscend, Takes, TakesId, TakesRows};
+ghost use Rattle.fp_index.specs.Lists.{ids_in, row_has, without, AllAscend, HasRoomFor, TakesId, TakesRows};
 
 use std::alloc::Global;
 use std::collections::HashMap;
@@ -49,7 +49,7 @@ pub fn make_room(
 /// Puts an id in its place in an ascending list, unless it is there.
 fn insert_id(ids: &mut Vec<Id>, id: Id)
     requires ascend { IsAscending ids.old.items }
-    requires room { Takes id ids.old }
+    requires room { HasRoomFor id ids.old }
     ensures { ids.new.items ≡ with_number id ids.old.items }
 {
     if let Err(at) = ids.binary_search(&id) {

@@ -34,8 +34,8 @@ pub record HasSeen (m : Counted) (seen : List Row) : Type 0 where
   pub sums : (c : ℕ) → lookup (nat_eq c) m.sums ≡ (if has c (ids_of seen) then Some (referenced seen c) else None)
 
 -- the number that a list of pairs gives for a container
-abbrev pub payload_of : List (ℕ × ℕ) → ℕ → ℕ
-payload_of payloads c = unwrap_or (lookup (nat_eq c) payloads) 0
+abbrev pub listed_length : List (ℕ × ℕ) → ℕ → ℕ
+listed_length payloads c = unwrap_or (lookup (nat_eq c) payloads) 0
 
 -- the list names each of these containers, and no other, once
 pub record NamesEach (ids : List ℕ) (payloads : List (ℕ × ℕ)) : Type 0 where

@@ -5,7 +5,7 @@
 ghost use Rattle.std.specs.Prelude.{◌≡◌, ◌<◌, ◌≤◌, ◌^◌, ◌+◌, ◌++◌, ◌∷◌, [], List, ℕ, IfOk, OnOk};
 ghost use Rattle.vault_types.specs.declared.Row.{Row as Reference};
 ghost use Rattle.vault_types.specs.Sparse.{sparse};
-ghost use Rattle.har_monitor.specs.Monitor.{HasSeen, NamesEach, payload_of};
+ghost use Rattle.har_monitor.specs.Monitor.{HasSeen, NamesEach, listed_length};
 
 mod used;
 
@@ -83,7 +83,7 @@ impl Monitor {
         limit: u32,
     ) -> Result<Vec<Id>, Memory>
         requires named { NamesEach self.ids payloads.now }
-        ensures { (seen : List Reference) → HasSeen self seen → IfOk result (λ list. list.items ≡ sparse seen (payload_of payloads.now) threshold limit) }
+        ensures { (seen : List Reference) → HasSeen self seen → IfOk result (λ list. list.items ≡ sparse seen (listed_length payloads.now) threshold limit) }
     {
         let mut used = little_used(alloc, &self.sums, payloads, threshold)?;
         sort_by_use(&mut used);

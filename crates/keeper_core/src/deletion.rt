@@ -8,7 +8,7 @@ ghost use Rattle.vault_types.specs.Delete.{delete, removed};
 ghost use Rattle.vault_types.specs.Shelf.{blob_at};
 ghost use Rattle.vault_types.specs.Events.{Core, IsNear, after_delete, after_release, delete_change};
 ghost use Rattle.vault_traits.specs.Crash.{LeavesNowIfTold, LeavesOnlyIfTold};
-ghost use Rattle.restore_pins.specs.Pins.{numbers, without};
+ghost use Rattle.restore_pins.specs.Pins.{numbers, without_pin};
 ghost use Rattle.deletion_laws.specs.Deleting.{IsDeleting};
 ghost use Rattle.deletion_laws.specs.Releasing.{IsReleased};
 ghost use Rattle.state_laws.specs.Parts.{HeldIfTold};
@@ -102,7 +102,7 @@ impl<S: Shelf> Keeper<S> {
     pub fn release(&mut self, no: PinNo)
         requires { IsTrue (has no (numbers self.old.pins)) }
         ensures releases { (K : Core) → Keeps self.old K → Keeps self.new (after_release no self.new.memo.strays K) }
-        ensures pins { self.new.pins ≡ without no self.old.pins }
+        ensures pins { self.new.pins ≡ without_pin no self.old.pins }
         ensures others { (K : Core) → Keeps self.old K → (n : Named) → (IsReleased K no n → ⊥) → blob_at self.new.told.blobs n ≡ blob_at self.old.told.blobs n }
         ensures any_moment { (K : Core) → Keeps self.old K → LeavesNowIfTold self.old.told.history (IsNear K.state K.other)
             → LeavesOnlyIfTold self.old.told.history self.new.told.history (IsNear K.state K.other) }

@@ -33,7 +33,7 @@ use Rattle.keeper_open.specs.declared.notes.Chunk.{Chunk}
 use Rattle.keeper_open.specs.declared.notes.RowPlace.{RowPlace}
 use Rattle.keeper_open.specs.declared.notes.Notes.{Notes}
 use Rattle.vault_types.specs.FirstDamage.{ReadsRecipe, ReadsTable, IsDueFrom, FloorsBefore, IsOpeningWhy, IsDamageOf}
-use Rattle.keeper_open.specs.Reading.{SetRead, AreFloors, AreRecipes, AreRead, IsLastDue, IsSetRead, IsVersionDamage, IsVersionWhy, IsSetDamage, IsSetFirst, AreSets, AreTables, last_next, last_sparse, number_of, AreBelow, NotesMore, AreNoted, all_recipes, same_chunk, has_chunk, some_has, left_of, IsFirstTable}
+use Rattle.keeper_open.specs.Reading.{SetRead, AreFloors, AreRecipes, AreReadInOrder, IsLastDue, IsSetRead, IsVersionDamage, IsVersionWhy, IsSetDamage, IsSetFirst, AreSets, AreReadTables, last_next, last_sparse, number_of, AreBelow, NotesMore, AreNoted, all_recipes, same_chunk, has_chunk, some_has, left_of, IsFirstTable}
 use Rattle.keeper_open.proofs.Noting.{cons_cases, first_in, later_in, none_in}
 
 -- causes
@@ -64,7 +64,7 @@ causes_again old before now P Q up later goes f h (Err e) is = record { later = 
 
 -- the first versions of a set
 pub record AreVersions (told : Option Blobs) (s floor version low : ℕ) (sparse : List ℕ) (old new : Notes) (rs : List Recipe) : Type 0 where
-  pub read : AreRead told s floor rs
+  pub read : AreReadInOrder told s floor rs
   pub count : floor + length rs ≡ version
   pub last : low ≡ last_next rs
   pub used : sparse ≡ last_sparse rs
@@ -79,7 +79,7 @@ pub record AreFirstSets (told : Option Blobs) (infos : List SetInfo) (number : �
 
 -- the first tables
 pub record AreFirstTables (told : Option Blobs) (ids : List ℕ) (tables : List (ℕ × Table)) (found : List (Fp × List ℕ)) (old new : List (Chunk × RowPlace)) (ts : List Table) : Type 0 where
-  pub read : AreTables told ts
+  pub read : AreReadTables told ts
   pub of : map (λ t. t.id) ts ≡ ids
   pub at : (c : ℕ) → table_at tables c ≡ find (λ t. t.id == c) ts
   pub index : IsIndexOf found ts

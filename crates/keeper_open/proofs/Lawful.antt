@@ -21,7 +21,7 @@ use Rattle.vault_types.specs.Blobs.{floor_bytes, recipe_bytes_1, recipe_bytes_2,
 use Rattle.vault_types.specs.Shelf.{Blobs, floor_name, recipe_name, table_name, IsFloorBlob, IsRecipeBlob}
 use Rattle.vault_types.specs.BlobDamage.{IsFloorIn, IsFloorWhy, IsRecipeWhy, IsTableWhy}
 use Rattle.state_laws.proofs.Growing.{rows_of}
-use Rattle.vault_types.specs.FirstDamage.{Opens, ReadsRecipe, ReadsTable, IsDue, IsRowAt, IsNamed, IsInTable, IsLower, IsRecipeFirst, IsFirstDamage}
+use Rattle.vault_types.specs.FirstDamage.{Opens, ReadsRecipe, ReadsTable, IsRecipeDue, IsRowAt, IsNamedByRow, IsInTable, IsLower, IsRecipeFirst, IsFirstDamage}
 use Rattle.keeper_open.proofs.Gathering.{some_at, at_below, in_place, all_in}
 use Rattle.keeper_open.proofs.Noting.{cons_cases, first_in, later_in, none_in}
 use Rattle.keeper_open.proofs.Damaging.{floor_unique, recipe_unique}
@@ -95,7 +95,7 @@ module _ (m : Blobs) (S : State) (opens : Opens m S) where
       (opens.stands.floors s (in_sets s low))
 
   -- a version that is due is kept
-  due_kept : (s v : ℕ) → IsDue m s v → (k : KeptVersion) × (version_of S s v ≡ Some k)
+  due_kept : (s v : ℕ) → IsRecipeDue m s v → (k : KeptVersion) × (version_of S s v ≡ Some k)
   due_kept s v due =
       let d = dataset S s in
       let is = is_dataset s due.set in
@@ -155,7 +155,7 @@ module _ (m : Blobs) (S : State) (opens : Opens m S) where
       blob
 
   -- a recipe that is due is that of a kept version
-  due_read : (s v : ℕ) (r : Recipe) → IsDue m s v → ReadsRecipe (Some m) s v r → (k : KeptVersion) × (version_of S s v ≡ Some k) × (r.next ≡ k.next) × (r.rows ≡ k.rows)
+  due_read : (s v : ℕ) (r : Recipe) → IsRecipeDue m s v → ReadsRecipe (Some m) s v r → (k : KeptVersion) × (version_of S s v ≡ Some k) × (r.next ≡ k.next) × (r.rows ≡ k.rows)
   due_read s v r due reads =
       let k = due_kept s v due in
       let q = kept_read s v k.0 due.set k.1 in
@@ -175,7 +175,7 @@ module _ (m : Blobs) (S : State) (opens : Opens m S) where
           let has = opens.stands.containers c found.0 in
           (c.table, (table_bytes c.table, ap (λ (id : ℕ). fin.get m (table_name id)) (sym found.1) ∙ has.table, record { number = found.1; rules = all_in (λ (d : Container). IsTable d.table) S.containers c opens.valid.tables found.0; spelled = refl }), stands)
 
-  named_read : (c : ℕ) → IsNamed m c → (t : Table) × ReadsTable (Some m) c t
+  named_read : (c : ℕ) → IsNamedByRow m c → (t : Table) × ReadsTable (Some m) c t
   named_read c named =
       let t = row_in_table named.set named.version named.place named.row named.is_row in
       (t.0, subst (λ (id : ℕ). ReadsTable (Some m) id t.0) named.is t.1)
@@ -194,7 +194,7 @@ module _ (m : Blobs) (S : State) (opens : Opens m S) where
   no_floor s (why.Whole want found) low bad = bad
   no_floor s (why.Chunk row want found) low bad = bad
 
-  no_lower : (s v before found : ℕ) → IsDue m s v → IsLower m s v before found → ⊥
+  no_lower : (s v before found : ℕ) → IsRecipeDue m s v → IsLower m s v before found → ⊥
   no_lower s v before found due bad =
       let first = due_read s bad.0 bad.1 bad.4 bad.5 in
       let second = due_read s v bad.2 due bad.6 in
@@ -207,7 +207,7 @@ module _ (m : Blobs) (S : State) (opens : Opens m S) where
       let up = next_at (λ j k. j.next ≤ k.next) d.versions (bad.0 - d.floor) first.0 second.0 (is_dataset s due.set).rising one.1 (ap (λ (i : ℕ). slice_get d.versions i) step ∙ two.1) in
       omega (arith, up, first.2, second.2, bad.7, bad.8, bad.9)
 
-  no_recipe : (s v : ℕ) (w : Why) → IsDue m s v → IsRecipeFirst m s v w → ⊥
+  no_recipe : (s v : ℕ) (w : Why) → IsRecipeDue m s v → IsRecipeFirst m s v w → ⊥
   no_recipe s v why.Absent due bad = let k = due_kept s v due in let r = kept_read s v k.0 due.set k.1 in there_not (fin.get m (recipe_name s v)) r.1.0 r.1.1 bad.2
   no_recipe s v why.Spelling due bad =
       let k = due_kept s v due in
@@ -220,7 +220,7 @@ module _ (m : Blobs) (S : State) (opens : Opens m S) where
   no_recipe s v (why.Whole want found) due bad = bad.2
   no_recipe s v (why.Chunk row want found) due bad = bad.2
 
-  no_table : (id : ℕ) (w : Why) → IsNamed m id → IsTableWhy (Some m) id w → ⊥
+  no_table : (id : ℕ) (w : Why) → IsNamedByRow m id → IsTableWhy (Some m) id w → ⊥
   no_table id why.Absent named bad = let t = named_read id named in there_not (fin.get m (table_name id)) t.1.0 t.1.1 bad
   no_table id why.Spelling named bad =
       let t = named_read id named in

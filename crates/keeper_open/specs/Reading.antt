@@ -59,7 +59,7 @@ abbrev pub last_sparse : List Recipe → List ℕ
 last_sparse rs = option_map_or (λ r. r.sparse) (last_or None rs) []
 
 -- these are the recipes of the first versions of the set
-pub record AreRead (told : Option Blobs) (s floor : ℕ) (rs : List Recipe) : Type 0 where
+pub record AreReadInOrder (told : Option Blobs) (s floor : ℕ) (rs : List Recipe) : Type 0 where
   pub recipes : AreRecipes told s floor rs
   pub rising : EachNext (λ q r. q.next ≤ r.next) rs
 
@@ -69,7 +69,7 @@ pub record IsSetRead (told : Option Blobs) (s : ℕ) (info : SetInfo) (rs : List
   pub low : 1 < info.floor → info.floor ≤ info.latest
   pub high : info.latest ≤ 4294967294
   pub count : info.floor + length rs ≡ info.latest + 1
-  pub read : AreRead told s info.floor rs
+  pub read : AreReadInOrder told s info.floor rs
   pub next : info.next ≡ last_next rs
   pub sparse : info.sparse ≡ last_sparse rs
 
@@ -84,7 +84,7 @@ IsVersionDamage told s v low other number w = ⊥
 
 -- the version behind these of the set is to be read, and is bad
 pub record IsSetFirst (m : Blobs) (s floor : ℕ) (rs : List Recipe) (number : ℕ) (w : Why) : Type 0 where
-  pub read : AreRead (Some m) s floor rs
+  pub read : AreReadInOrder (Some m) s floor rs
   pub due : IsDueFrom m s floor (floor + length rs)
   pub last : floor + length rs ≤ 4294967294
   pub is : IsVersionDamage (Some m) s (floor + length rs) (last_next rs) kind.Recipe number w
@@ -107,14 +107,14 @@ all_recipes ds = flat_map (λ d. d.recipes) ds
 
 -- what is noted of recipes
 
-abbrev pub rows_of : List Recipe → List Row
-rows_of rs = flat_map (λ r. r.rows) rs
+abbrev pub rows_of_all : List Recipe → List Row
+rows_of_all rs = flat_map (λ r. r.rows) rs
 
 abbrev pub marks_in : List Recipe → List Mark
 marks_in rs = flat_map (λ r. marks_of r.set r.version (set_of (map (λ q. q.id) r.rows))) rs
 
-abbrev pub chunk_of : Row → Chunk
-chunk_of r = record { fp = r.fp; id = r.id; len = r.len }
+abbrev pub chunk_of_row : Row → Chunk
+chunk_of_row r = record { fp = r.fp; id = r.id; len = r.len }
 
 abbrev pub same_chunk : Chunk → Chunk → Bool
 same_chunk a b = same_fp a.fp b.fp && (nat_eq a.id b.id && nat_eq a.len b.len)
@@ -122,7 +122,7 @@ same_chunk a b = same_fp a.fp b.fp && (nat_eq a.id b.id && nat_eq a.len b.len)
 -- the rows with their places, from row i on
 abbrev pub placed_rows : ℕ → ℕ → List Row → List (Chunk × RowPlace)
 placed_rows number i [] = []
-placed_rows number i (r ∷ rows) = (chunk_of r, record { number = number; row = i }) ∷ placed_rows number (i + 1) rows
+placed_rows number i (r ∷ rows) = (chunk_of_row r, record { number = number; row = i }) ∷ placed_rows number (i + 1) rows
 
 abbrev pub number_of : Recipe → ℕ
 number_of r = r.set * 2 ^ 32 + r.version
@@ -152,7 +152,7 @@ AreBelow rs number = (r : Recipe) → Contains rs r → number_of r < number
 
 pub record AreNoted (notes : Notes) (rs : List Recipe) : Type 0 where
   pub markers : AreMarkersOfSets notes.markers (marks_in rs)
-  pub ids : notes.ids.keys ≡ set_of (map (λ r. r.id) (rows_of rs))
+  pub ids : notes.ids.keys ≡ set_of (map (λ r. r.id) (rows_of_all rs))
   pub places : AreFirst notes.places.entries (placed rs)
 
 -- the recipes were noted behind those before
@@ -161,8 +161,8 @@ NotesMore old new number rs = (before : List Recipe) → AreBelow before number 
 
 -- tables
 
-abbrev pub AreTables : Option Blobs → List Table → Type 0
-AreTables told ts = AllByRecursion (λ t. ReadsTable told t.id t) ts
+abbrev pub AreReadTables : Option Blobs → List Table → Type 0
+AreReadTables told ts = AllByRecursion (λ t. ReadsTable told t.id t) ts
 
 -- the table of container id has the chunk
 abbrev pub has_chunk : ℕ → List TableRow → Chunk → Bool
@@ -182,7 +182,7 @@ IsFirstTable told ids other number w = ⊥
 
 -- the tables of these ids, in memory; of the places those are left whose chunk is in none of them
 pub record IsFound (told : Option Blobs) (ids : List ℕ) (places : List (Chunk × RowPlace)) (found : Found) (ts : List Table) : Type 0 where
-  pub read : AreTables told ts
+  pub read : AreReadTables told ts
   pub of : map (λ t. t.id) ts ≡ ids
   pub tables : (c : ℕ) → table_at found.tables.entries c ≡ find (λ t. t.id == c) ts
   pub index : IsIndexOf found.index ts

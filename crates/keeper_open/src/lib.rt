@@ -32,7 +32,7 @@ ghost use Rattle.vault_traits.specs.Shelf.{IsAsBefore};
 ghost use Rattle.vault_traits.specs.Causes.{HasCauses};
 ghost use Rattle.vault_types.specs.Shelf.{Blobs};
 ghost use Rattle.vault_types.specs.FirstDamage.{Opens, IsFirstDamage, IsDamageOf};
-ghost use Rattle.keeper_open.specs.Opening.{IsOpened};
+ghost use Rattle.keeper_open.specs.Opening.{IsStoreOpened};
 
 mod listing;
 mod notes;
@@ -64,7 +64,7 @@ pub struct Opened {
 /// `StoreFault` with the count of faults of the shelf; `Damaged` with the first place that is bad; `Memory`. Whatever is
 /// answered, the blobs are as before.
 pub fn open<S: Shelf>(alloc: Global, shelf: &mut S) -> Result<Opened, Fault>
-    ensures opened { IfOk result (λ o. (T : State) × IsOpened (S.told shelf.old).blobs T o.catalog o.index) }
+    ensures opened { IfOk result (λ o. (T : State) × IsStoreOpened (S.told shelf.old).blobs T o.catalog o.index) }
     ensures kept { IsAsBefore (S.told shelf.old) (S.told shelf.new) }
     ensures gets { (S.told shelf.new).gets ≡ (S.told shelf.old).gets }
     ensures causes { HasCauses (S.told shelf.old).faults (S.told shelf.new).faults (IsDamageOf (S.told shelf.old).blobs) result }

@@ -5,7 +5,7 @@ ghost use Rattle.vault_types.specs.declared.Recipe.{Recipe as Recipes};
 ghost use Rattle.vault_types.specs.Lists.{set_of};
 ghost use Rattle.keeper_open.specs.declared.notes.Chunk.{Chunk as Chunks};
 ghost use Rattle.keeper_open.specs.declared.notes.RowPlace.{RowPlace as Places};
-ghost use Rattle.keeper_open.specs.Reading.{chunk_of, same_chunk, placed_rows, number_of, has_chunk, left_of, IsNotAfter, IsLesserOf, AreFirst, ArePlacesBefore, AreBelow, AreNoted};
+ghost use Rattle.keeper_open.specs.Reading.{chunk_of_row, same_chunk, placed_rows, number_of, has_chunk, left_of, IsNotAfter, IsLesserOf, AreFirst, ArePlacesBefore, AreBelow, AreNoted};
 
 use keeper_catalog::distinct_ids;
 use set_markers::SetMarkers;
@@ -102,7 +102,7 @@ fn add_rows(places: &mut HashMap<Chunk, RowPlace>, number: u64, rows: &[Row]) ->
 }
 
 fn chunk_of(row: &Row) -> Chunk
-    ensures { result ≡ chunk_of row.now }
+    ensures { result ≡ chunk_of_row row.now }
 {
     Chunk {
         fp: row.fp,

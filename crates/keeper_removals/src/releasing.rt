@@ -7,7 +7,7 @@ ghost use Rattle.vault_types.specs.Shelf.{blob_at};
 ghost use Rattle.vault_types.specs.Events.{Core, IsNear, after_release, pins_without};
 ghost use Rattle.vault_traits.specs.Crash.{LeavesNowIfTold, LeavesOnlyIfTold};
 ghost use Rattle.set_markers.specs.SetMarkers.{AreMarkersOfSets};
-ghost use Rattle.restore_pins.specs.Pins.{numbers, listed_ids, without, AreListsOf};
+ghost use Rattle.restore_pins.specs.Pins.{numbers, listed_ids, without_pin, AreListsOf};
 ghost use Rattle.state_laws.specs.Parts.{HeldIfTold};
 ghost use Rattle.keeper_catalog.specs.Catalog.{memo_of, IsMemoOf, HasRoom};
 ghost use Rattle.deletion_laws.specs.Releasing.{IsReleased};
@@ -72,7 +72,7 @@ pub fn release_pin<S: Shelf>(shelf: &mut S, catalog: &mut Catalog, pins: &mut Pi
     requires room { HasRoom (memo_of catalog.old) }
     ensures memo { (K : Core) → Releasing (memo_of catalog.old) pins.old K → IsMemoOf (memo_of catalog.new) (after_release no catalog.new.strays.items K) }
     ensures pins { (K : Core) → Releasing (memo_of catalog.old) pins.old K → AreListsOf pins.new (pins_without no K.pins) }
-    ensures left { pins.new ≡ without no pins.old }
+    ensures left { pins.new ≡ without_pin no pins.old }
     ensures held { (K : Core) → Releasing (memo_of catalog.old) pins.old K → HeldIfTold (S.told shelf.old).blobs K → HeldIfTold (S.told shelf.new).blobs (after_release no catalog.new.strays.items K) }
     ensures others { (K : Core) → Releasing (memo_of catalog.old) pins.old K → (n : Named) → (IsReleased K no n → ⊥) → blob_at (S.told shelf.new).blobs n ≡ blob_at (S.told shelf.old).blobs n }
 

@@ -43,12 +43,12 @@ all_runs_at bytes = number_at w32 bytes >>= λ n. runs_at 0 n.0 n.1
 abbrev pub rows_at : Field (List Row)
 rows_at = tested_at is_few all_runs_at
 
-abbrev pub recipe_of : ℕ → ℕ × (ℕ × (ℕ × (ℕ × (Fp × (List Row × List ℕ))))) → Recipe
-recipe_of set p =
+abbrev pub recipe_from_fields : ℕ → ℕ × (ℕ × (ℕ × (ℕ × (Fp × (List Row × List ℕ))))) → Recipe
+recipe_from_fields set p =
     record { set = set; version = p.1.0; next = p.1.1.0; length = p.1.1.1.0; rows = p.1.1.1.1.1.0; sparse = p.1.1.1.1.1.1; whole = Some p.1.1.1.1.0 }
 
 -- all of a recipe of this set but the sum of the blob
 unfoldable pub recipe_at : ℕ → Field Recipe
 recipe_at set =
-    made_at (recipe_of set)
+    made_at (recipe_from_fields set)
     (both_at (tag_at tag_2) (λ _. both_at (number_at w32) (λ _. both_at (number_at w64) (λ _. both_at (number_at w64) (λ _. both_at fp_at (λ _. both_at rows_at (λ _. list_at 8 (number_at w64))))))))

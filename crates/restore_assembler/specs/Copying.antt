@@ -62,11 +62,11 @@ pub record HasCopied (payload : ℕ → List ℕ) (before now : SinkTold) (s : C
   pub summed : IsSumOf s.sum (done_bytes payload s)
 
 -- the sink failed, or the bytes have another sum than they should
-abbrev pub IsCause : Option Whole → SinkTold → SinkTold → Fault → Type 0
-IsCause whole before now (fault.WriteFault n) = (n ≡ now.faults) × Rose before.faults now.faults
-IsCause whole before now (fault.Damaged Recipe number (why.Whole want found)) =
+abbrev pub IsOutputFault : Option Whole → SinkTold → SinkTold → Fault → Type 0
+IsOutputFault whole before now (fault.WriteFault n) = (n ≡ now.faults) × Rose before.faults now.faults
+IsOutputFault whole before now (fault.Damaged Recipe number (why.Whole want found)) =
     (whole ≡ Some (record { number = number; want = want })) × (found ≢ want)
-IsCause whole before now other = ⊥
+IsOutputFault whole before now other = ⊥
 
 -- what was taken of all the bytes: a front of them where the sink failed, and else all of them, which have the sum
 -- that was found

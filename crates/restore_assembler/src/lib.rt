@@ -7,7 +7,7 @@ ghost use Rattle.vault_types.specs.declared.Step.TheVariants.{Serve};
 ghost use Rattle.vault_types.specs.Names.{fp};
 ghost use Rattle.vault_types.specs.Plans.{requests, serves, loads as loads_of};
 ghost use Rattle.vault_traits.specs.Told.{SinkTold, Takes};
-ghost use Rattle.restore_assembler.specs.Copying.{wanted, IsWanted, IsCovered, HasCopied, IsCause, IsTakenAt, version_bytes};
+ghost use Rattle.restore_assembler.specs.Copying.{wanted, IsWanted, IsCovered, HasCopied, IsOutputFault, IsTakenAt, version_bytes};
 
 mod ends;
 mod payload;
@@ -34,14 +34,14 @@ pub struct Copier {
 
 impl Model for Copier {
     ghost use Rattle.restore_assembler.specs.Copying.{Copying};
-    ghost use Rattle.restore_assembler.specs.Progress.{seen_of, IsGoing, IsReady, IsSumming};
+    ghost use Rattle.restore_assembler.specs.Progress.{seen_of, IsProgress, LoadsNext, IsSumming};
     ghost use Rattle.restore_assembler.specs.Ends.{HasEnds};
 
     ghost Value = { Copying };
 
     ghost view = { λ s. seen_of s.progress };
 
-    ghost invariant = { λ s. IsGoing s.progress × IsReady s.progress × IsSumming s.progress × HasEnds s.ends s.progress.spots.items };
+    ghost invariant = { λ s. IsProgress s.progress × LoadsNext s.progress × IsSumming s.progress × HasEnds s.ends s.progress.spots.items };
 }
 
 impl Copier {
@@ -136,7 +136,7 @@ impl Copier {
             → IsWanted payloads self.old payload.items
             → IsTakenAt (version_bytes payloads self.old.spots) before (K.told sink.new) e) }
 
-        ensures cause { IfErr result (IsCause self.old.whole (K.told sink.old) (K.told sink.new)) }
+        ensures cause { IfErr result (IsOutputFault self.old.whole (K.told sink.old) (K.told sink.new)) }
     {
         self.progress.give(payload, sink)
     }

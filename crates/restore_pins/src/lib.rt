@@ -6,7 +6,7 @@ ghost use Rattle.std.specs.Prelude.{◌≡◌, ◌++◌, ◌∷◌, [], List, ma
 ghost use Rattle.vault_types.specs.Lists.{has};
 ghost use Rattle.vault_types.specs.Tables.{id_of};
 ghost use Rattle.vault_types.specs.Events.{Pin as PinOf, pinned_containers, pins_without};
-ghost use Rattle.restore_pins.specs.Pins.{numbers, listed_ids, ids_at, without, IsListOf, AreListsOf};
+ghost use Rattle.restore_pins.specs.Pins.{numbers, listed_ids, ids_at, without_pin, IsListOf, AreListsOf};
 
 mod pin;
 
@@ -43,11 +43,11 @@ impl Model for Pins {
 
     ghost Value = { List Listed };
 
-    ghost use Rattle.restore_pins.specs.Numbers.{AreNumbered};
+    ghost use Rattle.restore_pins.specs.Numbers.{ArePinNumbers};
 
     ghost view = { λ p. p.pins.items };
 
-    ghost invariant = { λ p. AreNumbered p.next p.pins.items };
+    ghost invariant = { λ p. ArePinNumbers p.next p.pins.items };
 }
 
 impl Pins {
@@ -99,7 +99,7 @@ impl Pins {
     pub fn release(&mut self, no: PinNo) -> Vec<Id>
         requires { IsTrue (has no (numbers self.old)) }
         ensures ids { result.items ≡ ids_at self.old no }
-        ensures left { self.new ≡ without no self.old }
+        ensures left { self.new ≡ without_pin no self.old }
         ensures pins { (pins : List PinOf) → AreListsOf self.old pins → AreListsOf self.new (pins_without no pins) }
     {
         match place(self.pins.as_slice(), no.number) {

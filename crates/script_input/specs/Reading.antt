@@ -10,10 +10,6 @@ pub record HasGiven (from to : SourceTold) (text : List ℕ) : Type 0 where
   pub given : Gives from.left to.left text
   pub later : from.faults ≤ to.faults
 
--- nothing is left
-abbrev pub IsAtEnd : SourceTold → Type 0
-IsAtEnd to = IfSome to.left (λ rest. rest ≡ [])
-
 -- no memory, the source failed, or it has more than so many bytes
 abbrev pub IsTextFault : ℕ → SourceTold → SourceTold → Fault → Type 0
 IsTextFault limit from to fault.Memory = Unit {0}

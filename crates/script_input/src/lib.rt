@@ -7,7 +7,8 @@ ghost use Rattle.store_model.specs.Calls.{GivesAtMost};
 ghost use Rattle.store_model.specs.Outputs.{AreApartLines};
 ghost use Rattle.store_model.specs.Early.{IsScript, IsScriptFault};
 ghost use Rattle.store_model.specs.Ranges.{AreLimits, IsLineInRange};
-ghost use Rattle.script_input.specs.Reading.{IsTextFault, HasGiven, IsAtEnd};
+ghost use Rattle.vault_traits.specs.Told.{IsAtEnd};
+ghost use Rattle.script_input.specs.Reading.{IsTextFault, HasGiven};
 
 use script_words::read_script;
 use std::alloc::Global;

@@ -3,7 +3,7 @@ ghost use Rattle.std.specs.Prelude.{◌≡◌, true, ◌&&◌, ◌++◌, ◌∷�
 ghost use Rattle.std.specs.List.{list_any};
 ghost use Rattle.std.specs.Str.{bytes_eq};
 ghost use Rattle.vault_types.specs.Words as spec;
-ghost use Rattle.script_words.specs.Settings.{allowed_of, kinds_of, kinds_fit};
+ghost use Rattle.script_words.specs.Settings.{allowed_by, kinds_of, kinds_fit};
 
 use crate::values::{is_number_in, is_one_of};
 
@@ -254,7 +254,7 @@ pub(crate) fn delete_line_kinds() -> [SettingKind; 1]
 
 /// Whether a value is one that there may be.
 pub(crate) fn is_in(range: Range, value: &[u8]) -> bool
-    ensures { result ≡ spec.is_allowed (allowed_of range) value.now }
+    ensures { result ≡ spec.is_allowed (allowed_by range) value.now }
 {
     match range {
         Range::Number { low, high } => is_number_in(value, low, high),

@@ -6,17 +6,17 @@ use Rattle.std.proofs.lemmas.List.{map-append}
 use Rattle.vault_types.specs.declared.Fault.{Fault}
 use Rattle.vault_types.specs.declared.Fault.TheVariants as fault
 use Rattle.vault_types.specs.Tables.{Container}
-use Rattle.vault_traits.specs.Told.{SourceTold, Gives}
+use Rattle.vault_traits.specs.Told.{SourceTold, Gives, IsAtEnd}
 use Rattle.vault_traits.specs.Counts.{Rose}
 use Rattle.backup_pass.specs.declared.pass.Pass.{Pass}
 use Rattle.backup_pass.specs.Passing.{HasPassed, index_in}
 use Rattle.keeper_catalog.specs.View.{View}
-use Rattle.backup_jobs.specs.Backup.{IsBackupFault, IsAtEnd}
+use Rattle.backup_jobs.specs.Backup.{IsBackupFault}
 use Rattle.backup_jobs.specs.declared.closing.Ended.{Ended}
 use Rattle.backup_jobs.specs.Going.{Began, AreNamed, IsUnderway, IsPutStop, IsStopped, IsOver, HasEnded, rules_of, len_of}
 use Rattle.backup_jobs.proofs.Jobs.{named_then, rose_from}
 use Rattle.backup_jobs.proofs.Causes.{put_is_cause}
-use Rattle.serial_backup.specs.Streaming.{IsFed, IsHalted, IsTooMany, IsTooManyInAll, IsGoing, HasGone}
+use Rattle.serial_backup.specs.Streaming.{IsFed, IsHalted, IsTooMany, IsTooManyInAll, IsGoing, HasPassedPiece}
 
 pub passed_none : (b : Began) (now : View) (p : Pass) (lens read : List ℕ) (h : IsFed b now p lens read) (none : List Container) → none ≡ [] → HasPassed p (rules_of b) b.limits.chunks b.first read (h.containers ++ none)
 passed_none b now p lens read h none is = subst (HasPassed p (rules_of b) b.limits.chunks b.first read) (sym (ap (λ xs. h.containers ++ xs) is ∙ append-nil h.containers)) h.passed
@@ -117,7 +117,7 @@ module _ (b : Began) (before now : View) (from to : SourceTold) (old : Pass) (le
     cause = ⊎_elim (put_is_cause b now to (read ++ piece) f) (settled_is_cause b now to (read ++ piece) f) halted.cause;
   }
 
-  pub feed_goes : (piece : List ℕ) → length read ≤ b.limits.chunks * 65536 → length piece ≤ 65536 → (new : Pass) (lens' : List ℕ) (n : ℕ) → n ≡ length piece → (n ≡ 0 → IsAtEnd from) → Gives from.left to.left piece → from.faults ≤ to.faults → IsFed b now new lens' (read ++ piece) → HasGone b now to new lens' read n
+  pub feed_goes : (piece : List ℕ) → length read ≤ b.limits.chunks * 65536 → length piece ≤ 65536 → (new : Pass) (lens' : List ℕ) (n : ℕ) → n ≡ length piece → (n ≡ 0 → IsAtEnd from) → Gives from.left to.left piece → from.faults ≤ to.faults → IsFed b now new lens' (read ++ piece) → HasPassedPiece b now to new lens' read n
   feed_goes piece few one new lens' n len end gives later fed = record {
     piece = piece;
     len = len;

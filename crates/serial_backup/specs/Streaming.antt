@@ -5,14 +5,13 @@ use Rattle.vault_types.specs.declared.Fault.{Fault}
 use Rattle.vault_types.specs.Cuts.{cuts, settled}
 use Rattle.vault_types.specs.Names.{fp}
 use Rattle.vault_types.specs.Tables.{Container}
-use Rattle.vault_traits.specs.Told.{SourceTold, Gives}
+use Rattle.vault_traits.specs.Told.{SourceTold, Gives, IsAtEnd}
 use Rattle.container_fill.specs.Filling.{IsFilledBy}
 use Rattle.vault_types.specs.JobRanges.{IsCuttable}
 use Rattle.backup_pass.specs.declared.pass.Pass.{Pass}
 use Rattle.backup_pass.specs.declared.pass.Passed.{Passed}
 use Rattle.backup_pass.specs.Passing.{HasPassed, IsPassFault, index_in}
 use Rattle.keeper_catalog.specs.View.{View}
-use Rattle.backup_jobs.specs.Backup.{IsAtEnd}
 use Rattle.backup_jobs.specs.Going.{Began, AreNamed, IsUnderway, IsPutFault, rules_of, chunks_of, made, len_of}
 
 -- these bytes went through the pass, and the containers that it gave out are put
@@ -46,7 +45,7 @@ pub record IsGoing (b : Began) (now : View) (to : SourceTold) (pass : Pass) (len
   pub fed : IsFed b now pass lens read
 
 -- a piece more went through the pass; none is the end
-pub record HasGone (b : Began) (now : View) (to : SourceTold) (pass : Pass) (lens read : List ℕ) (n : ℕ) : Type 0 where
+pub record HasPassedPiece (b : Began) (now : View) (to : SourceTold) (pass : Pass) (lens read : List ℕ) (n : ℕ) : Type 0 where
   pub piece : List ℕ
   pub len : n ≡ length piece
   pub going : IsGoing b now to pass lens (read ++ piece)

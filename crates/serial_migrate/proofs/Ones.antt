@@ -36,7 +36,7 @@ use Rattle.keeper_core.specs.Replacing.{IsRefused}
 use Rattle.keeper_core.proofs.Replacings.{version_there, near_wider}
 use Rattle.store_model.specs.Complete.{is_counted}
 use Rattle.vault_types.specs.RecipeForms.{IsSecond}
-use Rattle.store_model.specs.Migrating.{IsFirst, HaveFirst, ShowsDamage}
+use Rattle.store_model.specs.Migrating.{IsInFirstFormat, HaveFirst, ShowsKeptDamage}
 use Rattle.vault_types.specs.declared.Pending.TheVariants as pending
 use Rattle.serial_delete.specs.Keeping.{IsStateOf}
 use Rattle.serial_delete.proofs.Keeping.{changed_of, images_of}
@@ -146,7 +146,7 @@ module _ (u w : View) (before now : SinkTold) (s n : ℕ) (result : Result Answe
       let taken : now.taken ≡ Some (bytes_of K.state s n) = done.taken ∙ ap (λ (o : Option (List ℕ)). option_map (λ y. y ++ bytes_of K.state s n) o) first in
       ap fp (some_same x (bytes_of K.state s n) (sym last ∙ taken)) ∙ done.sum
 
-  stopped_as : (f : Fault) → result ≡ Err f → (g : Fault) → (S : State) (other : Option Change) → IsStateOf u S other → ShowsDamage S (Refused g) → (IsSound S → IsFine g) → Stopped u w S other s n g
+  stopped_as : (f : Fault) → result ≡ Err f → (g : Fault) → (S : State) (other : Option Change) → IsStateOf u S other → ShowsKeptDamage S (Refused g) → (IsSound S → IsFine g) → Stopped u w S other s n g
   stopped_as f is g S other here damage sound =
       let k = version_is here.core here.keeps in
       let cut = subst (λ (x : Result Answer Fault). OnErr x (WhereTold u s n (λ K j. IsCut u w before now K s n j 16))) is r.err here.told here.core k.0 here.keeps k.1 in
@@ -164,11 +164,11 @@ module _ (u w : View) (before now : SinkTold) (s n : ℕ) (result : Result Answe
   cause_is f is = subst (λ (x : Result Answer Fault). IfErr x (λ g. (K : Core) → Keeps u K → IsRestoreFault u w before now K.state s n g)) is r.cause
 
   -- what the shelf's answers show of damage
-  damage_here : (d : Kind) (i : ℕ) (y : Why) (S : State) (other : Option Change) (here : IsStateOf u S other) → IsRestoreFault u w before now here.core.state s n (fault.Damaged d i y) → ShowsDamage S (Refused (fault.Damaged d i y))
+  damage_here : (d : Kind) (i : ℕ) (y : Why) (S : State) (other : Option Change) (here : IsStateOf u S other) → IsRestoreFault u w before now here.core.state s n (fault.Damaged d i y) → ShowsKeptDamage S (Refused (fault.Damaged d i y))
   damage_here d i y S other here h =
       let k = version_is here.core here.keeps in
       let is = shown u here.core here.keeps here.told s n (below here.core here.keeps) k.0 k.1 d i y h in
-      subst (λ (T : State). ShowsDamage T (Refused (fault.Damaged d i y))) here.state (s, n, k.0, k.1, is.0, is.1)
+      subst (λ (T : State). ShowsKeptDamage T (Refused (fault.Damaged d i y))) here.state (s, n, k.0, k.1, is.0, is.1)
 
   pub stopped_here : (f : Fault) → result ≡ Err f → (S : State) (other : Option Change) → IsStateOf u S other → Stopped u w S other s n (without_write f)
   stopped_here (fault.StoreFault i) is S other here = stopped_as (fault.StoreFault i) is (fault.StoreFault i) S other here tt (λ sound. inr refl)
@@ -209,14 +209,14 @@ pin_of_recipe told S s n d i y h = absurd h
 
 -- a fault of a read or of a put, which read the recipe
 module _ (u w : View) (s n : ℕ) (range : s < 256) (kept : (K : Core) → Keeps u K → is_kept K.state s n ≡ true) where
-  read_damage : (d : Kind) (i : ℕ) (y : Why) (S : State) (other : Option Change) → IsStateOf u S other → IsRecipeDamage u.told.blobs s n d i y → ShowsDamage S (Refused (fault.Damaged d i y))
+  read_damage : (d : Kind) (i : ℕ) (y : Why) (S : State) (other : Option Change) → IsStateOf u S other → IsRecipeDamage u.told.blobs s n d i y → ShowsKeptDamage S (Refused (fault.Damaged d i y))
   read_damage d i y S other here h =
       let k = version_there here.core.state s n here.keeps.core.state (kept here.core here.keeps) in
       let sets = here.keeps.core.state.sets in
       let is = shown u here.core here.keeps here.told s n (omega (arith, range, sets)) k.0 k.1 d i y (inl (pin_of_recipe u.told.blobs here.core.state s n d i y h)) in
-      subst (λ (T : State). ShowsDamage T (Refused (fault.Damaged d i y))) here.state (s, n, k.0, k.1, is.0, is.1)
+      subst (λ (T : State). ShowsKeptDamage T (Refused (fault.Damaged d i y))) here.state (s, n, k.0, k.1, is.0, is.1)
 
-  pub read_shows : (f : Fault) → IsCause u.told.faults w.told.faults (IsRecipeDamage u.told.blobs s n) f → (S : State) (other : Option Change) → IsStateOf u S other → ShowsDamage S (Refused f) × (IsSound S → IsFine f)
+  pub read_shows : (f : Fault) → IsCause u.told.faults w.told.faults (IsRecipeDamage u.told.blobs s n) f → (S : State) (other : Option Change) → IsStateOf u S other → ShowsKeptDamage S (Refused f) × (IsSound S → IsFine f)
   read_shows (fault.StoreFault i) h S other here = (tt, λ sound. inr refl)
   read_shows (fault.Damaged d i y) h S other here =
       let damage = read_damage d i y S other here h in
@@ -283,7 +283,7 @@ module _ (u w x : View) (s n : ℕ) (p : IsReplace w x s n) (S : State) (other :
         behind = λ now. subst (λ (T : State). LeavesNowIfTold x.told.history (IsNear T None)) mid.state (acknowledged K mid.keeps);
       }
 
-  pub put_stopped : (f : Fault) → ((J : Core) → Keeps w J → IsRefused x J) → ShowsDamage S (Refused f) × (IsSound S → IsFine f) → Stopped u x S other s n f
+  pub put_stopped : (f : Fault) → ((J : Core) → Keeps w J → IsRefused x J) → ShowsKeptDamage S (Refused f) × (IsSound S → IsFine f) → Stopped u x S other s n f
   put_stopped f err shows =
       let refused = err K mid.keeps in
       record {
@@ -362,7 +362,7 @@ module _ (u v : View) (s n : ℕ) (read : IsRead u v) (S : State) (other : Optio
     any_moment = λ now. stays (IsNear S other) u.told.history v.told.history read.shelf.1 now;
   }
 
-  pub read_halted : (f : Fault) → ShowsDamage S (Refused f) × (IsSound S → IsFine f) → Halted u v S other s n f
+  pub read_halted : (f : Fault) → ShowsKeptDamage S (Refused f) × (IsSound S → IsFine f) → Halted u v S other s n f
   read_halted f shows = record {
     stopped = record { next = other; leaves = read_leaves; loads = 0; few = λ least is. omega arith; gets = read.shelf.2; damage = shows.0; sound = shows.1 };
     few = λ recipes least have. omega arith;
@@ -395,7 +395,7 @@ module _ (u v : View) (s n : ℕ) (read : IsRead u v) (S : State) (other : Optio
 
   -- it is in the first, and was put again
   first_is : (whole : Option Fp) → (IsSome whole → ⊥) → (IsSome u.told.blobs → (K : Core) (k : KeptVersion) → Keeps u K → version_of K.state s n ≡ Some k → IsWholeOf u.told.blobs s n k whole)
-      → (j : KeptVersion) → version_of S s n ≡ Some j → IsFirst u.told.blobs s n j
+      → (j : KeptVersion) → version_of S s n ≡ Some j → IsInFirstFormat u.told.blobs s n j
   first_is whole none says j at = ⊎_elim
       (λ is. absurd (none (subst (λ (o : Option Fp). IsSome o) (sym is.0) refl)))
       (λ is. told_at u.told.blobs (recipe_name s n) (Some (recipe_bytes_1 (recipe_of s n j))) here.told is.1)

@@ -16,8 +16,9 @@ use Rattle.vault_traits.specs.Crash.{LeavesNowIfTold, LeavesOnlyIfTold}
 use Rattle.keeper_catalog.specs.View.{View}
 use Rattle.store_model.specs.Complete.{is_counted}
 use Rattle.vault_types.specs.RecipeForms.{IsSecond}
-use Rattle.store_model.specs.Migrating.{HaveFirst, ShowsDamage, kept_versions}
+use Rattle.store_model.specs.Migrating.{HaveFirst, ShowsKeptDamage, kept_versions}
 use Rattle.serial_delete.specs.Keeping.{IsStateOf, IsKnownStray}
+use Rattle.vault_types.specs.FirstDamage.{IsBefore}
 
 -- the job and the pins stay, and the count of faults has not fallen
 pub record IsLaterOf (u v : View) : Type 0 where
@@ -74,7 +75,7 @@ pub record Stopped (u v : View) (S : State) (other : Option Change) (s n : ℕ) 
   pub loads : ℕ
   pub few : (least : ℕ) → IsLeast (requests (row_ids S s n)) 16 least → loads ≤ least
   pub gets : v.told.gets ≡ counted_up u.told.gets loads
-  pub damage : ShowsDamage S (Refused f)
+  pub damage : ShowsKeptDamage S (Refused f)
   pub sound : IsSound S → (f ≡ fault.Memory) ⊎ IsTrue (is_counted (Refused f))
 
 -- one version was gone through: its recipe is in the second format, and was put again where it was in the first
@@ -92,17 +93,13 @@ pub record Halted (u v : View) (S : State) (other : Option Change) (s n : ℕ) (
   pub stopped : Stopped u v S other s n f
   pub few : (recipes least : ℕ) → HaveFirst u.told.blobs S ((s, n) ∷ []) recipes least → stopped.loads ≤ least
 
--- a version comes before the one of this number in this set
-abbrev pub IsBefore : ℕ → ℕ → ℕ → ℕ → Type 0
-IsBefore set number s n = (s < set) ⊎ ((s ≡ set) × (n < number))
-
 -- all versions before that one were gone through, which these are
 pub record Gone (u v : View) (S : State) (other : Option Change) (set number : ℕ) (versions : List (ℕ × ℕ)) (recipes : ℕ) : Type 0 where
   pub next : Option Change
   pub keeps : IsStateOf v S next
   pub next_other : (next ≡ None) ⊎ (next ≡ other)
-  pub done : (s n : ℕ) (k : KeptVersion) → version_of S s n ≡ Some k → IsBefore set number s n → IsSecond v.told.blobs s n k
-  pub rest : (s n : ℕ) (k : KeptVersion) → version_of S s n ≡ Some k → (IsBefore set number s n → ⊥) → blob_at v.told.blobs (recipe_name s n) ≡ blob_at u.told.blobs (recipe_name s n)
+  pub done : (s n : ℕ) (k : KeptVersion) → version_of S s n ≡ Some k → IsBefore s n set number → IsSecond v.told.blobs s n k
+  pub rest : (s n : ℕ) (k : KeptVersion) → version_of S s n ≡ Some k → (IsBefore s n set number → ⊥) → blob_at v.told.blobs (recipe_name s n) ≡ blob_at u.told.blobs (recipe_name s n)
   pub strays : (q : Name) → IsKnownStray v q → IsKnownStray u q
   pub any_moment : LeavesNowIfTold u.told.history (IsNear S other) → LeavesOnlyIfTold u.told.history v.told.history (IsNear S other)
   pub behind : LeavesNowIfTold u.told.history (IsNear S other) → LeavesNowIfTold v.told.history (IsNear S next)
@@ -125,5 +122,5 @@ pub record HasEndedBy (u v : View) (S : State) (other : Option Change) (f : Faul
   pub loads : ℕ
   pub few : (recipes least : ℕ) → HaveFirst u.told.blobs S (kept_versions S) recipes least → loads ≤ least
   pub gets : v.told.gets ≡ counted_up u.told.gets loads
-  pub damage : ShowsDamage S (Refused f)
+  pub damage : ShowsKeptDamage S (Refused f)
   pub sound : IsSound S → (f ≡ fault.Memory) ⊎ IsTrue (is_counted (Refused f))

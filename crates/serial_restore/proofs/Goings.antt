@@ -22,7 +22,7 @@ use Rattle.vault_types.specs.State.{State, KeptVersion, version_of, is_kept, flo
 use Rattle.vault_types.specs.Tables.{Container}
 use Rattle.vault_traits.specs.Crash.{LeavesNowIfTold, LeavesOnlyIfTold}
 use Rattle.vault_traits.specs.Told.{SinkTold}
-use Rattle.restore_pins.specs.Pins.{numbers, without}
+use Rattle.restore_pins.specs.Pins.{numbers, without_pin}
 use Rattle.deletion_laws.specs.Releasing.{IsReleased}
 use Rattle.vault_traits.specs.Causes.{IsCause}
 use Rattle.keeper_catalog.specs.View.{View, Keeps, HasCore}
@@ -30,7 +30,7 @@ use Rattle.commit_laws.proofs.Listing.{some_same}
 use Rattle.keeper_core.specs.Calls.{HasListed, IsPinned, IsPinDamage, IsWholeOf}
 use Rattle.vault_traits.proofs.Written.{takes_nothing}
 use Rattle.store_model.specs.Calls.{IsShortAt}
-use Rattle.serial_restore.specs.Going.{Stays, HasPinned, IsCopied, IsStopped, IsAtMostLeast}
+use Rattle.serial_restore.specs.Going.{Stays, HasPinned, IsCopied, IsRestoreStopped, IsAtMostLeast}
 use Rattle.serial_restore.specs.Restoring.{whole_of, IsRestoreFault, IsLeft, IsCut, HasGone}
 use Rattle.serial_restore.proofs.Restores.{has_last, listed_gone, stayed, moment, stayed_still, moment_still, leaves_same}
 use Rattle.serial_restore.proofs.Versions.{of_pin, restored, cut, found_in, short_in}
@@ -53,7 +53,7 @@ pub record IsPin (v u : View) (s n no total : ℕ) (spots : List Spot) (sum : Op
 -- what a release ensures
 pub record IsRelease (w x : View) (no : ℕ) : Type 0 where
   pub releases : (K : Core) → Keeps w K → Keeps x (after_release no x.memo.strays K)
-  pub pins : x.pins ≡ without no w.pins
+  pub pins : x.pins ≡ without_pin no w.pins
   pub any_moment : (K : Core) → Keeps w K → LeavesNowIfTold w.told.history (IsNear K.state K.other) → LeavesOnlyIfTold w.told.history x.told.history (IsNear K.state K.other)
   pub within : (K : Core) → Keeps w K → (q : Name) → Contains x.memo.strays q → Contains w.memo.strays q ⊎ IsReleased K no q
   pub others : (K : Core) → Keeps w K → (q : Name) → (IsReleased K no q → ⊥) → blob_at x.told.blobs q ≡ blob_at w.told.blobs q
@@ -68,13 +68,13 @@ pub pinned_core : (u : View) (number : ℕ) (spots : List Spot) → HasCore u �
 pinned_core u number spots core lists = (core.0, record { keeps = core.1; listed = lists core.0 core.1 })
 
 either_stays : (u w : View) (number : ℕ) (before now : SinkTold) (spots : List Spot) (whole : Option Whole) (slots : ℕ) (IsFew : ℕ → Type 0) (r : Result ℕ Fault)
-    → IfOk r (λ m. IsCopied u w number before now spots whole slots m) → IfErr r (IsStopped u w number before now spots whole IsFew) → Stays u w
+    → IfOk r (λ m. IsCopied u w number before now spots whole slots m) → IfErr r (IsRestoreStopped u w number before now spots whole IsFew) → Stays u w
 either_stays u w number before now spots whole slots IsFew (Ok m) ok err = ok.stays
 either_stays u w number before now spots whole slots IsFew (Err f) ok err = err.stays
 
 pub can_release : (v u w : View) (number n : ℕ) (before now : SinkTold) (spots : List Spot) (whole : Option Whole) (slots : ℕ) (IsFew : ℕ → Type 0) (r : Result ℕ Fault)
     → (ids : List ℕ) × (u.pins ≡ v.pins ++ record { number = number; version = n; ids = ids } ∷ [])
-    → IfOk r (λ m. IsCopied u w number before now spots whole slots m) → IfErr r (IsStopped u w number before now spots whole IsFew) → has number (numbers w.pins) ≡ true
+    → IfOk r (λ m. IsCopied u w number before now spots whole slots m) → IfErr r (IsRestoreStopped u w number before now spots whole IsFew) → has number (numbers w.pins) ≡ true
 can_release v u w number n before now spots whole slots IsFew r given ok err =
     has_last v.pins w.pins (record { number = number; version = n; ids = given.0 }) ((either_stays u w number before now spots whole slots IsFew r ok err).pins ∙ given.1)
 
@@ -143,7 +143,7 @@ module _ (v u w x : View) (before now : SinkTold) (s n slots no total : ℕ) (sp
     later = omega (arith, p.later, stays.later, r.later);
     tells = λ some. r.tells (still_tells v.told.blobs w.told.blobs (stays.blobs ∙ p.shelf.0) some);
     job = r.same.1 ∙ stays.job ∙ p.same.2;
-    pins = r.pins ∙ ap (without no) (stays.pins ∙ p.given.1) ∙ listed_gone no (record { number = no; version = n; ids = p.given.0 }) v.pins refl p.fresh;
+    pins = r.pins ∙ ap (without_pin no) (stays.pins ∙ p.given.1) ∙ listed_gone no (record { number = no; version = n; ids = p.given.0 }) v.pins refl p.fresh;
     state = λ K keeps.
         let q = p.pinned K keeps in
         stayed v u w x K keeps s n no p.fresh p.same.0 stays r.releases r.within r.others p.shelf.0 (q.0, q.1, q.3) (λ tells k kept. (p.ok tells K k keeps kept).0);
@@ -166,7 +166,7 @@ module _ (v u w x : View) (before now : SinkTold) (s n slots no total : ℕ) (sp
     short = tt;
   }
 
-  pub stopped_gone : (f : Fault) → IsStopped u w no before now spots (option_map (whole_of s n) sum) (IsAtMostLeast (requests (map (λ q. q.id) spots)) slots) f → HasGone v x before now s n slots (Err f)
+  pub stopped_gone : (f : Fault) → IsRestoreStopped u w no before now spots (option_map (whole_of s n) sum) (IsAtMostLeast (requests (map (λ q. q.id) spots)) slots) f → HasGone v x before now s n slots (Err f)
   stopped_gone f stopped = record {
     left = left_over stopped.stays;
     sink = stopped.later;

@@ -48,7 +48,7 @@ use Rattle.script_laws.proofs.LineLemmas.{unmoved, not_kept_means, not_kept_is}
 use Rattle.vault_types.specs.declared.Pending.TheVariants as pending
 use Rattle.serial_delete.specs.Keeping.{IsStateWith, IsKnownStray}
 use Rattle.serial_delete.proofs.Keeping.{changed_of, images_of}
-use Rattle.serial_restore.specs.Going.{IsAtMostLeast, TakesFront}
+use Rattle.serial_restore.specs.Going.{IsAtMostLeast, HasTakenFront}
 use Rattle.serial_restore.specs.Restoring.{IsRestoreFault, IsBadPayloadOf, IsWrongSumOf, IsLeft, HasGone}
 use Rattle.serial_restore.proofs.Damages.{undamaged, shown}
 use Rattle.serial_restore.proofs.Goings.{not_kept_gone}
@@ -253,7 +253,7 @@ module _ (v x : View) (ps : List Pin) (before now : SinkTold) (s n slots : ℕ) 
 -- ---- what is written
 
 module _ (v x : View) (before now : SinkTold) (s n slots : ℕ) (K : Core) (keeps : Keeps v K) (told : IsSome v.told.blobs) where
-  refused_written : (f : Fault) → TakesFront before now (bytes_of K.state s n) → IsShortAt (bytes_of K.state s n) before.taken now.taken f → HasWritten K.state s n (Refused f) before.taken now.taken
+  refused_written : (f : Fault) → HasTakenFront before now (bytes_of K.state s n) → IsShortAt (bytes_of K.state s n) before.taken now.taken f → HasWritten K.state s n (Refused f) before.taken now.taken
   refused_written (fault.Damaged kind.Recipe i (why.Whole want found)) front all = (bytes_of K.state s n, ([], append-nil (bytes_of K.state s n)), all, λ done. refl)
   refused_written other front all = (front.front, (front.rest, front.parts), front.taken, λ done. absurd (let e : false ≡ true = done in cc))
 

@@ -73,7 +73,7 @@ IsLoadOf ids (Evict id) = Unit {0}
 IsLoadOf ids Serve = Unit {0}
 
 -- the sink has taken a front of the bytes
-pub record TakesFront (before now : SinkTold) (bytes : List ℕ) : Type 0 where
+pub record HasTakenFront (before now : SinkTold) (bytes : List ℕ) : Type 0 where
   pub front : List ℕ
   pub rest : List ℕ
   pub parts : front ++ rest ≡ bytes
@@ -128,7 +128,7 @@ pub record StopsAt (v w : View) (number : ℕ) (before now : SinkTold) (s : Copy
   pub later : before.faults ≤ now.faults
   pub gets : w.told.gets ≡ counted v.told.gets
   pub cause : (K : Core) → HasPinned v number s.spots K → IsCopyFault v w before now K.pins number s.whole f
-  pub front : (payloads : ℕ → List ℕ) (start : SinkTold) → AreGiven v number s.spots payloads → HasCopied payloads start before s → TakesFront start now (version_bytes payloads s.spots)
+  pub front : (payloads : ℕ → List ℕ) (start : SinkTold) → AreGiven v number s.spots payloads → HasCopied payloads start before s → HasTakenFront start now (version_bytes payloads s.spots)
   pub found : (payloads : ℕ → List ℕ) (start : SinkTold) → AreGiven v number s.spots payloads → HasCopied payloads start before s → IsFoundOf (version_bytes payloads s.spots) f
   pub short : (payloads : ℕ → List ℕ) (start : SinkTold) → AreGiven v number s.spots payloads → HasCopied payloads start before s → IsShortAt (version_bytes payloads s.spots) start.taken now.taken f
 
@@ -172,14 +172,14 @@ pub record IsCopied (v w : View) (number : ℕ) (before now : SinkTold) (spots :
   pub sum : (spots ≡ []) ⊎ IsSummed v number spots whole
 
 -- a restore of these spots stopped; so many loads as it had are few
-pub record IsStopped (v w : View) (number : ℕ) (before now : SinkTold) (spots : List Spot) (whole : Option Whole) (IsFew : ℕ → Type 0) (f : Fault) : Type 0 where
+pub record IsRestoreStopped (v w : View) (number : ℕ) (before now : SinkTold) (spots : List Spot) (whole : Option Whole) (IsFew : ℕ → Type 0) (f : Fault) : Type 0 where
   pub stays : Stays v w
   pub later : before.faults ≤ now.faults
   pub loads : ℕ
   pub few : IsFew loads
   pub gets : w.told.gets ≡ counted_up v.told.gets loads
   pub cause : (K : Core) → HasPinned v number spots K → IsCopyFault v w before now K.pins number whole f
-  pub front : (payloads : ℕ → List ℕ) → AreGiven v number spots payloads → TakesFront before now (version_bytes payloads spots)
+  pub front : (payloads : ℕ → List ℕ) → AreGiven v number spots payloads → HasTakenFront before now (version_bytes payloads spots)
   pub found : (payloads : ℕ → List ℕ) → AreGiven v number spots payloads → IsFoundOf (version_bytes payloads spots) f
   pub short : (payloads : ℕ → List ℕ) → AreGiven v number spots payloads → IsShortAt (version_bytes payloads spots) before.taken now.taken f
 

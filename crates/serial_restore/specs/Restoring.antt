@@ -25,7 +25,7 @@ use Rattle.vault_types.specs.BlobDamage.{IsPayloadDamage}
 use Rattle.keeper_catalog.specs.View.{View, Keeps}
 use Rattle.keeper_core.specs.Calls.{IsPinDamage}
 use Rattle.store_model.specs.Calls.{IsShortAt}
-use Rattle.serial_restore.specs.Going.{TakesFront, IsAtMostLeast}
+use Rattle.serial_restore.specs.Going.{HasTakenFront, IsAtMostLeast}
 
 -- the sum that a version should have, by the number of its recipe
 abbrev pub whole_of : ℕ → ℕ → Fp → Whole
@@ -79,7 +79,7 @@ pub record IsCut (v w : View) (before now : SinkTold) (K : Core) (s n : ℕ) (k 
   pub loads : ℕ
   pub few : IsAtMostLeast (requests (map (λ r. r.id) k.rows)) slots loads
   pub gets : w.told.gets ≡ counted_up v.told.gets loads
-  pub front : TakesFront before now (bytes_of K.state s n)
+  pub front : HasTakenFront before now (bytes_of K.state s n)
 
 -- over a shelf that tells its blobs, of a kept version
 abbrev pub WhereTold : View → ℕ → ℕ → (Core → KeptVersion → Type 0) → Type 0

@@ -6,7 +6,7 @@ ghost use Rattle.vault_types.specs.Plans.{requests as requests_of, loads as load
 ghost use Rattle.vault_types.specs.Events.{Core};
 ghost use Rattle.vault_traits.specs.Told.{SinkTold};
 ghost use Rattle.restore_assembler.specs.Copying.{wanted, HasCopied};
-ghost use Rattle.serial_restore.specs.Going.{HasPinned, IsLoadOf, LoadsOne, StopsAt, HasDone, IsCopied, IsStopped, IsAtMostLeast};
+ghost use Rattle.serial_restore.specs.Going.{HasPinned, IsLoadOf, LoadsOne, StopsAt, HasDone, IsCopied, IsRestoreStopped, IsAtMostLeast};
 
 use belady_cache::{plan, requests};
 use keeper_core::Keeper;
@@ -48,7 +48,7 @@ fn copy_all<S: Shelf, O: Sink>(
     requires start { copier.done ≡ 0 }
     requires fresh { (payloads : ℕ → List ℕ) (told : SinkTold) → HasCopied payloads told told copier }
     ensures ok { OnOk result (HasDone keeper.old keeper.new no.now (O.told sink.old) (O.told sink.new) copier) }
-    ensures err { IfErr result (IsStopped keeper.old keeper.new no.now (O.told sink.old) (O.told sink.new) copier.spots copier.whole (λ m. m ≤ loads_of copier.steps)) }
+    ensures err { IfErr result (IsRestoreStopped keeper.old keeper.new no.now (O.told sink.old) (O.told sink.new) copier.spots copier.whole (λ m. m ≤ loads_of copier.steps)) }
 {
     while let Some(id) = copier.wants() {
         load_one(alloc, keeper, no, id, &mut copier, sink)?;
@@ -72,7 +72,7 @@ pub fn copy_pinned<S: Shelf, O: Sink>(
     requires few { slots ≤ 64 }
     requires pinned { (K : Core) × HasPinned keeper.old no.now spots.items K }
     ensures ok { IfOk result (λ n. IsCopied keeper.old keeper.new no.now (O.told sink.old) (O.told sink.new) spots.items whole slots n) }
-    ensures err { IfErr result (IsStopped keeper.old keeper.new no.now (O.told sink.old) (O.told sink.new) spots.items whole (IsAtMostLeast (requests_of (map (λ s. s.id) spots.items)) slots)) }
+    ensures err { IfErr result (IsRestoreStopped keeper.old keeper.new no.now (O.told sink.old) (O.told sink.new) spots.items whole (IsAtMostLeast (requests_of (map (λ s. s.id) spots.items)) slots)) }
 {
     let reqs = requests(alloc, spots.as_slice())?;
     let planned = plan(alloc, reqs.as_slice(), slots)?;

@@ -47,9 +47,9 @@ impl<S: Stage> Model for StageThread<S> {
 
     ghost coded = { view_code S.code };
 
-    ghost use Rattle.stage_threads.specs.States.{StandsFor, kept_of};
+    ghost use Rattle.stage_threads.specs.States.{StandsFor, kept_stage};
 
-    ghost view = { λ t. record { first = t.first.value; kept = kept_of t.state.value } };
+    ghost view = { λ t. record { first = t.first.value; kept = kept_stage t.state.value } };
 
     ghost invariant = { λ t. StandsFor S.same t.first.value t.state.value };
 }

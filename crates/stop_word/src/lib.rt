@@ -4,7 +4,7 @@
 
 ghost use Rattle.std.specs.Prelude.{◌≡◌, ◌≤◌, ◌+◌, ◌||◌, true, false, IfOk};
 ghost use Rattle.std.specs.List.{list_any};
-ghost use Rattle.stop_word.specs.Holders.{Family, fresh, IsWhole};
+ghost use Rattle.stop_word.specs.Holders.{Family, fresh, AreAllHolders};
 
 mod rule;
 
@@ -28,9 +28,9 @@ pub struct Holder {
 impl Model for Holder {
     ghost use Rattle.std.specs.Prelude.{◌≡◌, []};
     ghost use Rattle.std.specs.Arc.{arc_value};
-    ghost use Rattle.stop_word.specs.Holders.{Held};
+    ghost use Rattle.stop_word.specs.Holders.{HolderState};
 
-    ghost Value = { Held };
+    ghost Value = { HolderState };
 
     ghost view = { λ h. record { family = record { word = h.seat.table_id; count = (arc_value h.board).shared.key }; number = h.number; raised = h.seat.me.0.raised; saw = h.seat.me.0.saw } };
 
@@ -146,7 +146,7 @@ impl Pile {
 /// Whether the word was raised, by one of its holders, who are all back, in any order. A holder that ever saw the word
 /// raised shows that one has raised it. No memory: keep the list that `holders` gave, and its room, for the way back.
 pub fn gather(mut all: Vec<Holder>) -> bool
-    requires { IsWhole all.items }
+    requires { AreAllHolders all.items }
     ensures raised { result ≡ list_any (λ h. h.raised) all.items }
     ensures seen { list_any (λ h. h.saw) all.items ≡ true → result ≡ true }
 {

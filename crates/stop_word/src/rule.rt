@@ -1,6 +1,6 @@
 //! The rule of a stop word, and what each of its steps tells.
 ghost use Rattle.std.specs.Prelude.{◌≡◌, ◌+◌, ◌-◌, true, false, ◌||◌, ◌==◌};
-ghost use Rattle.stop_word.specs.Word.{IsKept, seen_as};
+ghost use Rattle.stop_word.specs.Word.{IsConsistent, seen_as};
 
 use atomic_table::{Join, Play, Split, Table, TableRule};
 use std::alloc::Global;
@@ -16,7 +16,7 @@ pub struct View {
 pub struct Rule;
 
 impl TableRule<(), View, u32> for Rule {
-    ghost holds = { λ count s. IsKept count s };
+    ghost holds = { λ count s. IsConsistent count s };
 
     ghost first = { λ count. seen_as count false false };
 }

@@ -34,8 +34,8 @@ GivesAtMost most from to = (read : List ℕ) × Gives from.left to.left read × 
 
 -- the bytes that were read are too many: so many chunks of them are settled, or there are so many as nothing is left, or
 -- there are more bytes than the limit's chunks can have
-abbrev pub IsTooMany : Limits → JobConfig → List ℕ → SourceTold → Type 0
-IsTooMany limits config read to =
+abbrev pub AreTooManyBytes : Limits → JobConfig → List ℕ → SourceTold → Type 0
+AreTooManyBytes limits config read to =
     (limits.chunks < length (settled read config.cutting))
     ⊎ ((IfSome to.left (λ rest. rest ≡ []) × (limits.chunks < length (cuts read config.cutting)))
     ⊎ (limits.chunks * 65536 < length read))
@@ -46,7 +46,7 @@ pub record BacksUpLine (before behind : Keeping) (Known Behind : Name → Type 0
   pub read : List ℕ
   pub given : Gives from.left to.left read
   pub within : length read ≤ limits.chunks * 65536 + 65536
-  pub too_many : (n : ℕ) → result ≡ Err (fault.TooMany n) → IsTooMany limits config read to
+  pub too_many : (n : ℕ) → result ≡ Err (fault.TooMany n) → AreTooManyBytes limits config read to
   pub done : IfOk result (λ a. is_refused a ≡ false)
   pub kind : IsTrue (fits limits (Backup set [] config) (answer_of result))
   pub causes : CausesRise (counts_of_source old from) (counts_of_source new to) (answer_of result ∷ [])

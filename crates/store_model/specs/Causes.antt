@@ -116,7 +116,7 @@ answers_of_changes (Backup s name config ∷ lines) (answer ∷ answers) = answe
 answers_of_changes (Restore s v name cache ∷ lines) (answer ∷ answers) = answers_of_changes lines answers
 answers_of_changes (Delete s n ∷ lines) (answer ∷ answers) = answer ∷ answers_of_changes lines answers
 
-pub record HasCauses (old new : Counts) (lines : List Line) (answers : List Answer) : Type 0 where
+pub record AnswersHaveCauses (old new : Counts) (lines : List Line) (answers : List Answer) : Type 0 where
   pub store : RiseInSomeOrder old.store (filter_map store_number answers) new.store
   pub place : RiseInSomeOrder old.place (filter_map place_number answers) new.place
   pub read : RiseInSomeOrder old.read (filter_map read_number answers) new.read

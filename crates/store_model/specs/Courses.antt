@@ -13,7 +13,7 @@ use Rattle.vault_types.specs.State.{State, is_kept, floor_of, latest_of, version
 use Rattle.vault_types.specs.Script.{is_refused}
 use Rattle.vault_types.specs.Texts.{recipe_text}
 use Rattle.vault_traits.specs.Told.{ShelfTold, SinkTold, Gives, Takes}
-use Rattle.store_model.specs.Calls.{GivesAtMost, HasWritten, IsTooMany}
+use Rattle.store_model.specs.Calls.{GivesAtMost, HasWritten, AreTooManyBytes}
 use Rattle.store_model.specs.Causes.{Counts, CausesRise, fits, counts_of_source, counts_of_sink, counts_of_shelf}
 use Rattle.store_model.specs.Complete.{IsWell, IsComplete}
 use Rattle.store_model.specs.Leaves.{Begins}
@@ -48,7 +48,7 @@ pub record RunsBackup (set : ℕ) (config : JobConfig) (limits : Limits) (before
   pub read : List ℕ
   pub given : Gives before.input.left now.input.left read
   pub within : length read ≤ limits.chunks * 65536 + 65536
-  pub too_many : (n : ℕ) → answer ≡ Refused (fault.TooMany n) → IsTooMany limits config read now.input
+  pub too_many : (n : ℕ) → answer ≡ Refused (fault.TooMany n) → AreTooManyBytes limits config read now.input
   pub runs : RunsLine limits (unwrap_or before.input.left read) (Backup set [] config) before.shelf now.shelf answer (counts_of_source before.shelf before.input) (counts_of_source now.shelf now.input)
   pub to_the_end : is_refused answer ≡ false → IfSome now.input.left (λ rest. rest ≡ [])
   pub printed : IsPrinted (report_text answers) before.out now.out f

@@ -43,14 +43,14 @@ abbrev pub kept_versions : State → List (ℕ × ℕ)
 kept_versions S = versions_below S (length S.datasets)
 
 -- the recipe of the version is spelled in the first format
-abbrev pub IsFirst : Option Blobs → ℕ → ℕ → KeptVersion → Type 0
-IsFirst told s v k = blob_at told (recipe_name s v) ≡ Some (recipe_bytes_1 (recipe_of s v k))
+abbrev pub IsInFirstFormat : Option Blobs → ℕ → ℕ → KeptVersion → Type 0
+IsInFirstFormat told s v k = blob_at told (recipe_name s v) ≡ Some (recipe_bytes_1 (recipe_of s v k))
 
 -- a version whose recipe is in the first format, and how many loads a restore of it with 16 slots can do with at least
 pub record IsOneFirst (told : Option Blobs) (S : State) (s v least : ℕ) : Type 0 where
   pub version : KeptVersion
   pub kept : version_of S s v ≡ Some version
-  pub first : IsFirst told s v version
+  pub first : IsInFirstFormat told s v version
   pub loads : IsLeast (requests (row_ids S s v)) 16 least
 
 -- of these versions so many have their recipes in the first format, and their restores can do with so many loads in all
@@ -79,9 +79,9 @@ fits_migrate other = false
 abbrev pub IsDamageOfKept : State → Kind → ℕ → Why → Type 0
 IsDamageOfKept S k number why = (s v : ℕ) × (j : KeptVersion) × (version_of S s v ≡ Some j) × IsTrue (is_damage_of S s v k number) × IsDamage S s v k number why
 
-abbrev pub ShowsDamage : State → Answer → Type 0
-ShowsDamage S (Refused (fault.Damaged k number why)) = IsDamageOfKept S k number why
-ShowsDamage S answer = Unit {0}
+abbrev pub ShowsKeptDamage : State → Answer → Type 0
+ShowsKeptDamage S (Refused (fault.Damaged k number why)) = IsDamageOfKept S k number why
+ShowsKeptDamage S answer = Unit {0}
 
 -- each kept recipe is as it was, or in the second format; where it was done each is in that
 pub record AreForms (S : State) (answer : Answer) (old new : Option Blobs) : Type 0 where
@@ -93,7 +93,7 @@ pub record AreForms (S : State) (answer : Answer) (old new : Option Blobs) : Typ
 pub record MigratesIn (S : State) (answer : Answer) (old new : ShelfTold) : Type 0 where
   pub forms : AreForms S answer old.blobs new.blobs
   pub gets : (n : ℕ) × (new.gets ≡ counted_up old.gets n) × GetsOf old.blobs S answer n
-  pub damage : ShowsDamage S answer
+  pub damage : ShowsKeptDamage S answer
   pub complete : IsSound S → (is_refused answer ≡ false) ⊎ ((answer ≡ Refused fault.Memory) ⊎ IsTrue (is_counted answer))
 
 -- a crash at any moment leaves what it could leave before; and one behind a migration that was done what there is then

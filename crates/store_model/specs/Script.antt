@@ -10,7 +10,7 @@ use Rattle.vault_types.specs.Shelf.{Stands}
 use Rattle.vault_types.specs.Script.{Sources, state_after, Reaches}
 use Rattle.vault_traits.specs.Crash.{LeavesNowIfTold}
 use Rattle.vault_traits.specs.Told.{ShelfTold, PlacesTold}
-use Rattle.store_model.specs.Causes.{AreFitting, CausesRise, HasCauses, counts_over}
+use Rattle.store_model.specs.Causes.{AreFitting, CausesRise, AnswersHaveCauses, counts_over}
 use Rattle.store_model.specs.Table.{MeanLines}
 use Rattle.store_model.specs.Leaves.{LeavesShelf, BearsLines, BearsOnceDone}
 use Rattle.store_model.specs.Outputs.{AreOutputs, KeepsOthers, OnFiles, Reads, AreRead, AreFed, AreThere}
@@ -39,7 +39,7 @@ pub record MeansScript (limits : Limits) (sources : Sources) (S : State) (lines 
 -- are those that the lines mean, and complete where all is well
 pub record RunsLines (in_order : Bool) (From : State → Type 0) (Known : State → Name → Type 0) (limits : Limits) (lines : List Line) (answers : List Answer) (old new : ShelfTold) (before now : PlacesTold) : Type 0 where
   pub kinds : AreFitting limits lines answers
-  pub causes : HasCauses (counts_over old before) (counts_over new now) lines answers
+  pub causes : AnswersHaveCauses (counts_over old before) (counts_over new now) lines answers
   pub ordered : IsTrue in_order → CausesRise (counts_over old before) (counts_over new now) answers
   pub others : OnFiles before.files now.files (KeepsOthers lines)
   pub reads : Reads

@@ -10,9 +10,9 @@ pub record GatedGiving : Type 0 where
   pub faults : ℕ
 
 -- the next piece; where none is left, no bytes
-abbrev pub next_of : List (List ℕ) → List ℕ
-next_of [] = []
-next_of (piece ∷ pieces) = piece
+abbrev pub first_piece : List (List ℕ) → List ℕ
+first_piece [] = []
+first_piece (piece ∷ pieces) = piece
 
 -- the pieces with these bytes before them, where there are any
 abbrev pub before_pieces : List ℕ → List (List ℕ) → List (List ℕ)

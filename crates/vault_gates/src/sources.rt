@@ -4,7 +4,7 @@ ghost use Rattle.std.specs.List.{concat};
 ghost use Rattle.vault_traits.specs.Counts.{counted, HasFailed};
 ghost use Rattle.vault_traits.specs.Told.{Gives};
 ghost use Rattle.vault_ports.specs.Failing.{counted_if};
-ghost use Rattle.vault_gates.specs.Streams.{next_of, once_given};
+ghost use Rattle.vault_gates.specs.Streams.{first_piece, once_given};
 
 use crate::gate::Gate;
 use crate::guard::Guard;
@@ -47,7 +47,7 @@ impl GateSource {
         requires { 0 < length buf.old }
         ensures given { concat self.old.pieces ≡ take result buf.new ++ concat self.new.pieces }
         ensures end { result ≡ 0 → self.old.pieces ≡ [] }
-        ensures many { result ≡ min (length (next_of self.old.pieces)) (length buf.old) }
+        ensures many { result ≡ min (length (first_piece self.old.pieces)) (length buf.old) }
         ensures rest { self.new ≡ record self.old { pieces = once_given result self.old.pieces } }
     {
         let piece = self.pieces.next();
@@ -72,7 +72,7 @@ impl Source for GateSource {
         ensures buffer { OnErr result (buf.new ≡ buf.old) }
         ensures cause { HasFailed self.old.faults self.new.faults result }
         ensures fails { IsErr result → counted self.old.calls ≡ self.old.nth }
-        ensures many { IfOk result (λ n. n ≡ min (length (next_of self.old.pieces)) (length buf.old)) }
+        ensures many { IfOk result (λ n. n ≡ min (length (first_piece self.old.pieces)) (length buf.old)) }
         ensures rest { IfOk result (λ n. self.new.pieces ≡ once_given n self.old.pieces) }
         ensures counts { self.new ≡ record self.old { pieces = self.new.pieces; calls = counted self.old.calls; faults = counted_if (is_err result) self.old.faults } }
     {

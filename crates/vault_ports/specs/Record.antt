@@ -55,10 +55,10 @@ history_of r = history_then (history_from r.base r.steps) r.last
 -- ---- what a crash leaves
 
 -- the blobs as the last settle left them
-abbrev pub settled : History → Blobs
-settled [] = map.empty
-settled (Wrote name bytes ∷ past) = settled past
-settled (Settled m ∷ past) = m
+abbrev pub settled_blobs : History → Blobs
+settled_blobs [] = map.empty
+settled_blobs (Wrote name bytes ∷ past) = settled_blobs past
+settled_blobs (Settled m ∷ past) = m
 
 -- the writes since, the oldest first
 abbrev pub writes_since : History → List Write
@@ -72,7 +72,7 @@ carried_out m [] taken = m
 carried_out m (w ∷ ws) taken = carried_out (cond (taken % 2 == 1) (with_blob m w.0 w.1) m) ws (taken / 2)
 
 abbrev pub image_of : History → ℕ → Blobs
-image_of h taken = carried_out (settled h) (writes_since h) taken
+image_of h taken = carried_out (settled_blobs h) (writes_since h) taken
 
 -- ---- what a call does to it
 
@@ -92,7 +92,7 @@ abbrev pub stops_now : Record → Bool
 stops_now r = nat_lt r.calls r.stop && nat_le r.stop (counted r.calls) && nat_lt (length r.steps) room
 
 -- a write that failed: nothing is done, and the one at the stop is kept
-pub record IsRefused (before after : Record) (name : Name) (bytes : Option (List ℕ)) : Type 0 where
+pub record IsWriteRefused (before after : Record) (name : Name) (bytes : Option (List ℕ)) : Type 0 where
   pub steps : after.steps ≡ before.steps
   pub last : after.last ≡ cond (stops_now before) (Some (name, bytes)) before.last
 
@@ -168,4 +168,4 @@ last_write (Some write) = write ∷ []
 
 -- the entries are none, or end with a settle
 abbrev pub AreSettled : List Entry → Type 0
-AreSettled es = (base : Blobs) → (settled (history_from base (steps_after base [] es)) ≡ replayed base es) × (writes_since (history_from base (steps_after base [] es)) ≡ [])
+AreSettled es = (base : Blobs) → (settled_blobs (history_from base (steps_after base [] es)) ≡ replayed base es) × (writes_since (history_from base (steps_after base [] es)) ≡ [])

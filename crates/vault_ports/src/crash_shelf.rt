@@ -7,7 +7,7 @@ ghost use Rattle.vault_traits.specs.Counts.{counted, HasCause, HasFailed};
 ghost use Rattle.vault_traits.specs.Crash.{Wrote, IsImage};
 ghost use Rattle.vault_traits.specs.Shelf.{gets_after, history_settled, IsWritten, MayBeWritten, IsAsBefore, IsListing};
 ghost use Rattle.vault_ports.specs.Failing.{is_failed};
-ghost use Rattle.vault_ports.specs.Record.{room, entry_write, entry_step, reading, history_of, image_of, IsCounted, IsRefused};
+ghost use Rattle.vault_ports.specs.Record.{room, entry_write, entry_step, reading, history_of, image_of, IsCounted, IsWriteRefused};
 
 use crate::entries::{Entry, Writing};
 use crate::mem_shelf::{MemShelf, count_get};
@@ -220,7 +220,7 @@ impl Shelf for CrashShelf {
         requires { name.kind ≢ Kind.Floor }
         ensures ok { OnOk result (IsWritten (Some (reading self.old.base self.old.steps)) (Some (reading self.new.base self.new.steps)) (Some (history_of self.old)) (Some (history_of self.new)) name (Some bytes.now)) }
         ensures at_most { MayBeWritten (Some (reading self.old.base self.old.steps)) (Some (reading self.new.base self.new.steps)) (Some (history_of self.old)) (Some (history_of self.new)) name (Some bytes.now) }
-        ensures failed { IsErrOf result Refused.Failed → IsRefused self.old self.new name (Some bytes.now) }
+        ensures failed { IsErrOf result Refused.Failed → IsWriteRefused self.old self.new name (Some bytes.now) }
         ensures memory { IsErrOf result Refused.Memory → (self.new.steps ≡ self.old.steps) × (self.new.last ≡ self.old.last) }
         ensures gets { self.new.gets ≡ self.old.gets }
         ensures cause { HasCause self.old.faults self.new.faults result }
@@ -250,7 +250,7 @@ impl Shelf for CrashShelf {
     fn put_floor(&mut self, set: Set, bytes: &[u8; 28]) -> Result<(), Failed>
         ensures ok { OnOk result (IsWritten (Some (reading self.old.base self.old.steps)) (Some (reading self.new.base self.new.steps)) (Some (history_of self.old)) (Some (history_of self.new)) (floor_name set) (Some bytes.now)) }
         ensures at_most { MayBeWritten (Some (reading self.old.base self.old.steps)) (Some (reading self.new.base self.new.steps)) (Some (history_of self.old)) (Some (history_of self.new)) (floor_name set) (Some bytes.now) }
-        ensures failed { OnErr result (IsRefused self.old self.new (floor_name set) (Some bytes.now)) }
+        ensures failed { OnErr result (IsWriteRefused self.old self.new (floor_name set) (Some bytes.now)) }
         ensures gets { self.new.gets ≡ self.old.gets }
         ensures cause { HasFailed self.old.faults self.new.faults result }
         ensures fails { IsErr result ↔ ((self.old.stop ≤ counted self.old.calls) ⊎ (room ≤ length self.old.steps)) }
@@ -276,7 +276,7 @@ impl Shelf for CrashShelf {
     fn remove(&mut self, name: Name) -> Result<(), Failed>
         ensures ok { OnOk result (IsWritten (Some (reading self.old.base self.old.steps)) (Some (reading self.new.base self.new.steps)) (Some (history_of self.old)) (Some (history_of self.new)) name None) }
         ensures at_most { MayBeWritten (Some (reading self.old.base self.old.steps)) (Some (reading self.new.base self.new.steps)) (Some (history_of self.old)) (Some (history_of self.new)) name None }
-        ensures failed { OnErr result (IsRefused self.old self.new name None) }
+        ensures failed { OnErr result (IsWriteRefused self.old self.new name None) }
         ensures gets { self.new.gets ≡ self.old.gets }
         ensures cause { HasFailed self.old.faults self.new.faults result }
         ensures fails { IsErr result ↔ ((self.old.stop ≤ counted self.old.calls) ⊎ (room ≤ length self.old.steps)) }

@@ -1,5 +1,5 @@
 -- What the devices tell. A device that tells its content is called honest.
-use Rattle.std.specs.Prelude.{◌≡◌, ℕ, List, ◌++◌, Option}
+use Rattle.std.specs.Prelude.{◌≡◌, ℕ, List, [], ◌++◌, Option, IfSome}
 use Rattle.std.specs.Option.{option_map}
 use Rattle.vault_types.specs.Shelf.{Blobs}
 use Rattle.vault_traits.specs.Crash.{History}
@@ -37,6 +37,10 @@ pub record PlacesTold : Type 0 where
 -- the piece is the next of what was left
 abbrev pub Gives : Option (List ℕ) → Option (List ℕ) → List ℕ → Type 0
 Gives left rest piece = left ≡ option_map (λ x. piece ++ x) rest
+
+-- nothing is left
+abbrev pub IsAtEnd : SourceTold → Type 0
+IsAtEnd to = IfSome to.left (λ rest. rest ≡ [])
 
 -- the piece was taken behind what had been taken
 abbrev pub Takes : Option (List ℕ) → Option (List ℕ) → List ℕ → Type 0

@@ -38,7 +38,7 @@ abbrev pub IsDueFrom : Blobs → ℕ → ℕ → ℕ → Type 0
 IsDueFrom m s floor v = ((v ≡ floor) × (1 < floor)) ⊎ IsListedFrom m s v
 
 -- the recipe of version v of set s is to be read
-pub record IsDue (m : Blobs) (s v : ℕ) : Type 0 where
+pub record IsRecipeDue (m : Blobs) (s v : ℕ) : Type 0 where
   pub set : s < 256
   pub floor : ℕ
   pub reads : IsFloorIn (Some m) s floor
@@ -48,7 +48,7 @@ pub record IsDue (m : Blobs) (s v : ℕ) : Type 0 where
 
 -- the first id that was free after the version before is not above that of this one
 abbrev pub IsAfter : Blobs → ℕ → ℕ → Recipe → Type 0
-IsAfter m s v r = (u : ℕ) (q : Recipe) → u + 1 ≡ v → IsDue m s u → ReadsRecipe (Some m) s u q → q.next ≤ r.next
+IsAfter m s v r = (u : ℕ) (q : Recipe) → u + 1 ≡ v → IsRecipeDue m s u → ReadsRecipe (Some m) s u q → q.next ≤ r.next
 
 pub record IsGoodRecipe (m : Blobs) (s v : ℕ) : Type 0 where
   pub recipe : Recipe
@@ -58,12 +58,12 @@ pub record IsGoodRecipe (m : Blobs) (s v : ℕ) : Type 0 where
 -- row i of the recipe of version v of set s
 pub record IsRowAt (m : Blobs) (s v i : ℕ) (row : Row) : Type 0 where
   pub recipe : Recipe
-  pub due : IsDue m s v
+  pub due : IsRecipeDue m s v
   pub reads : ReadsRecipe (Some m) s v recipe
   pub at : slice_get recipe.rows i ≡ Some row
 
 -- a row names the container
-pub record IsNamed (m : Blobs) (id : ℕ) : Type 0 where
+pub record IsNamedByRow (m : Blobs) (id : ℕ) : Type 0 where
   pub set : ℕ
   pub version : ℕ
   pub place : ℕ
@@ -84,10 +84,10 @@ abbrev pub FloorsBefore : Blobs → ℕ → Type 0
 FloorsBefore m s = (t : ℕ) → t < s → (floor : ℕ) × IsFloorIn (Some m) t floor
 
 abbrev pub RecipesBefore : Blobs → ℕ → ℕ → Type 0
-RecipesBefore m s v = (t w : ℕ) → IsBefore t w s v → IsDue m t w → IsGoodRecipe m t w
+RecipesBefore m s v = (t w : ℕ) → IsBefore t w s v → IsRecipeDue m t w → IsGoodRecipe m t w
 
 abbrev pub TablesBefore : Blobs → ℕ → Type 0
-TablesBefore m id = (c : ℕ) → c < id → IsNamed m c → (t : Table) × ReadsTable (Some m) c t
+TablesBefore m id = (c : ℕ) → c < id → IsNamedByRow m c → (t : Table) × ReadsTable (Some m) c t
 
 abbrev pub RowsBefore : Blobs → ℕ → ℕ → ℕ → Type 0
 RowsBefore m s v i = (t w j : ℕ) (row : Row) → IsBefore t w s v ⊎ ((t ≡ s) × (w ≡ v) × (j < i)) → IsRowAt m t w j row → IsInTable m row
@@ -104,14 +104,14 @@ pub record AreRecipesGood (m : Blobs) : Type 0 where
 pub record AreTablesGood (m : Blobs) : Type 0 where
   pub floors : FloorsBefore m 256
   pub recipes : RecipesBefore m 256 0
-  pub tables : (c : ℕ) → IsNamed m c → (t : Table) × ReadsTable (Some m) c t
+  pub tables : (c : ℕ) → IsNamedByRow m c → (t : Table) × ReadsTable (Some m) c t
 
 -- a bad place
 
 -- the version before has another `next`, which is above the one found
 abbrev pub IsLower : Blobs → ℕ → ℕ → ℕ → ℕ → Type 0
 IsLower m s v before found =
-    (u : ℕ) × (q : Recipe) × (r : Recipe) × (u + 1 ≡ v) × IsDue m s u × ReadsRecipe (Some m) s u q × ReadsRecipe (Some m) s v r
+    (u : ℕ) × (q : Recipe) × (r : Recipe) × (u + 1 ≡ v) × IsRecipeDue m s u × ReadsRecipe (Some m) s u q × ReadsRecipe (Some m) s v r
     × (q.next ≡ before) × (r.next ≡ found) × (found < before)
 
 abbrev pub IsRecipeFirst : Blobs → ℕ → ℕ → Why → Type 0
@@ -121,8 +121,8 @@ IsRecipeFirst m s v other = FloorsBefore m 256 × RecipesBefore m s v × IsRecip
 
 abbrev pub IsFirstDamage : Blobs → Kind → ℕ → Why → Type 0
 IsFirstDamage m kind.Floor number w = (number < 256) × FloorsBefore m number × IsFloorWhy (Some m) number w
-IsFirstDamage m kind.Recipe number w = (s : ℕ) × (v : ℕ) × (number ≡ (recipe_name s v).number) × IsDue m s v × IsRecipeFirst m s v w
-IsFirstDamage m kind.Table number w = AreRecipesGood m × TablesBefore m number × IsNamed m number × IsTableWhy (Some m) number w
+IsFirstDamage m kind.Recipe number w = (s : ℕ) × (v : ℕ) × (number ≡ (recipe_name s v).number) × IsRecipeDue m s v × IsRecipeFirst m s v w
+IsFirstDamage m kind.Table number w = AreRecipesGood m × TablesBefore m number × IsNamedByRow m number × IsTableWhy (Some m) number w
 IsFirstDamage m kind.Payload number w = ⊥
 
 -- what opening may find wrong with a place, whatever the shelf tells

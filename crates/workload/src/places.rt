@@ -29,9 +29,9 @@ pub struct FillPlaces {
 }
 
 impl Model for FillPlaces {
-    ghost use Rattle.workload.specs.Places.{Filling};
+    ghost use Rattle.workload.specs.Places.{FilledPlaces};
 
-    ghost Value = { Filling };
+    ghost Value = { FilledPlaces };
 
     ghost view = { λ p. record { seed = p.seed; places = p.places.items; write_faults = p.write_faults } };
 }

@@ -7,7 +7,7 @@ use Rattle.vault_types.specs.Fill.{fill}
 use Rattle.container_fill.specs.Carried.{carried}
 use Rattle.container_fill.specs.Filling.{IsFilledBy}
 use Rattle.backup_jobs.specs.declared.closing.Rest.{Rest}
-use Rattle.backup_jobs.specs.Going.{Began, IsFilling, IsPutStop, chunks_of}
+use Rattle.backup_jobs.specs.Going.{Began, HasFilledParts, IsPutStop, chunks_of}
 use Rattle.backup_jobs.proofs.Jobs.{stopped_again}
 use Rattle.backup_jobs.proofs.Chunks.{hows}
 use Rattle.backup_jobs.proofs.Ends.{HasLeft, none_left, has_put_all}

@@ -4,7 +4,7 @@ use Rattle.vault_types.specs.declared.Fault.{Fault}
 use Rattle.std.specs.Prelude.{Result}
 use Rattle.vault_types.specs.declared.Whole.{Whole}
 use Rattle.vault_types.specs.Plans.{requests}
-use Rattle.serial_restore.specs.Going.{IsCopied, IsStopped, IsAtMostLeast}
+use Rattle.serial_restore.specs.Going.{IsCopied, IsRestoreStopped, IsAtMostLeast}
 use Rattle.serial_restore.specs.Restoring.{HasGone}
 use Rattle.serial_restore.proofs.Goings.{pinned_core, can_release, gone_as, pin_gone, copied_gone, stopped_gone}
 use Rattle.serial_restore.proofs.restoring.restore_kept.Goals as goal
@@ -90,4 +90,4 @@ returns-in-Err g c =
       same = c.release.ensures.same;
     })
     c.in-Err.fault
-    (subst (λ (o : Option Whole). IsStopped c.pin.new.self c.copy_pinned-copied.new.keeper p.no (told c.args.sink.now) (told c.copy_pinned-copied.new.sink) p.spots.items o (IsAtMostLeast (requests (map (λ q. q.id) p.spots.items)) c.args.slots) c.in-Err.fault) c.whole_of-whole.ensures c.in-Err.ensures.err)
+    (subst (λ (o : Option Whole). IsRestoreStopped c.pin.new.self c.copy_pinned-copied.new.keeper p.no (told c.args.sink.now) (told c.copy_pinned-copied.new.sink) p.spots.items o (IsAtMostLeast (requests (map (λ q. q.id) p.spots.items)) c.args.slots) c.in-Err.fault) c.whole_of-whole.ensures c.in-Err.ensures.err)

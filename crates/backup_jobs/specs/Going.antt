@@ -33,8 +33,8 @@ use Rattle.backup_jobs.specs.declared.opening.Job.{Job}
 use Rattle.backup_jobs.specs.declared.opening.Opened.{Opened}
 use Rattle.backup_jobs.specs.Backup.{IsNumber, IsBackupFault, IsJobName}
 
--- what a backup began with: the set, the number of its version, the settings, the first free id, the sparse list and the
--- index that it was told, and the keeper and the source as they were
+-- what a backup began with: the set, the number of its version, the settings, the first free id,
+-- the sparse list and the index that it was told, and the keeper and the source as they were
 pub record Began : Type 0 where
   pub set : ℕ
   pub version : ℕ
@@ -68,7 +68,8 @@ job_core s containers v K = after_refused None (Some (job_with s containers)) v.
 
 -- each stray is one from before, or a name of one of these containers
 pub record AreNamed (before now : View) (containers : List Container) : Type 0 where
-  pub each : (n : Name) → Contains now.memo.strays n → Contains before.memo.strays n ⊎ IsContainerName containers n
+  pub each : (n : Name) → Contains now.memo.strays n
+      → Contains before.memo.strays n ⊎ IsContainerName containers n
 
 -- the job has put these containers. Its set was not full
 pub record IsUnderway (b : Began) (now : View) (containers : List Container) : Type 0 where
@@ -85,11 +86,15 @@ pub record IsUnderway (b : Began) (now : View) (containers : List Container) : T
   pub pins : now.pins ≡ b.keeper.pins
   pub tells : IsSome b.keeper.told.blobs → IsSome now.told.blobs
   pub recipes : (K : Core) → Keeps b.keeper K → KeepsRecipes K.state b.keeper.told.blobs now.told.blobs
-  pub strays : (n : Name) → Contains now.memo.strays n → Contains b.keeper.memo.strays n ⊎ IsJobName b.first b.limits.chunks n
+  pub strays : (n : Name) → Contains now.memo.strays n
+      → Contains b.keeper.memo.strays n ⊎ IsJobName b.first b.limits.chunks n
   pub later : b.keeper.told.faults ≤ now.told.faults
   pub gets : now.told.gets ≡ b.keeper.told.gets
-  pub crash : (K : Core) → Keeps b.keeper K → LeavesNowIfTold b.keeper.told.history (IsNear K.state K.other) → LeavesOnlyIfTold b.keeper.told.history now.told.history (IsNear K.state K.other)
-  pub images : (K : Core) → Keeps b.keeper K → (b.keeper.pending ≡ pending.Not → LeavesNowIfTold b.keeper.told.history (IsNear K.state K.other)) → LeavesNowIfTold now.told.history (IsNear K.state None)
+  pub crash : (K : Core) → Keeps b.keeper K → LeavesNowIfTold b.keeper.told.history (IsNear K.state K.other)
+      → LeavesOnlyIfTold b.keeper.told.history now.told.history (IsNear K.state K.other)
+  pub images : (K : Core) → Keeps b.keeper K
+      → (b.keeper.pending ≡ pending.Not → LeavesNowIfTold b.keeper.told.history (IsNear K.state K.other))
+      → LeavesNowIfTold now.told.history (IsNear K.state None)
 
 -- there was no memory, or the shelf failed
 abbrev pub IsPutFault : ℕ → ℕ → Fault → Type 0
@@ -111,7 +116,9 @@ abbrev pub chunks_of : JobConfig → List ℕ → List NamedChunk
 chunks_of config x = map named_chunk (cuts x config.cutting)
 
 abbrev pub made : Began → List ℕ → Filled
-made b x = fill b.first (chunks_of b.config x) (decide (found_in b.index) (rules_of b) (chunks_of b.config x)) b.config.container
+made b x =
+    fill b.first (chunks_of b.config x) (decide (found_in b.index) (rules_of b) (chunks_of b.config x))
+    b.config.container
 
 -- how many bytes the payload of a container has
 abbrev pub len_of : Container → ℕ
@@ -136,7 +143,8 @@ pub record IsStopped (b : Began) (now : View) (to : SourceTold) (f : Fault) : Ty
   pub cause : IsBackupFault b.config b.limits b.keeper.told.faults now.told.faults b.source to read f
 
 -- these parts went into the filler, and the containers that it gave out are put
-pub record HasFilledParts (b : Began) (now : View) (f : Filling) (lens : List ℕ) (parts : List (NamedChunk × How)) : Type 0 where
+pub record HasFilledParts (b : Began) (now : View) (f : Filling) (lens : List ℕ)
+    (parts : List (NamedChunk × How)) : Type 0 where
   pub containers : List Container
   pub underway : IsUnderway b now containers
   pub waits : now.pending ≡ pending.Not
@@ -192,11 +200,16 @@ pub record IsJobOf (b : Began) (job : Job) : Type 0 where
   pub first : job.first ≡ b.first
   pub config : job.config ≡ b.config
 
--- the recipe may be committed and says the version of the definition, with the sum of its bytes, and the answer is that of it
+-- the recipe may be committed and says the version of the definition, with the sum of its bytes,
+-- and the answer is that of it
 pub record IsReady (b : Began) (now : View) (read : List ℕ) (p : Recipe × Answer) : Type 0 where
-  pub can : (K : Core) → Keeps b.keeper K → CanCommit (job_core b.set (made b read).containers now K) (job_with b.set (made b read).containers) p.0
+  pub can : (K : Core) → Keeps b.keeper K
+      → CanCommit (job_core b.set (made b read).containers now K) (job_with b.set (made b read).containers)
+      p.0
   pub says : (K : Core) → Keeps b.keeper K
-      → version_by (job_core b.set (made b read).containers now K) (job_with b.set (made b read).containers) p.0 ≡ version_from K.state (made b read) (fp read) b.config
+      → version_by (job_core b.set (made b read).containers now K) (job_with b.set (made b read).containers)
+      p.0
+      ≡ version_from K.state (made b read) (fp read) b.config
   pub whole : IsSome p.0.whole
   pub answer : (K : Core) → Keeps b.keeper K → p.1 ≡ stored K.state b.set read b.config
 
@@ -228,7 +241,8 @@ began_with s config limits v from o = record {
 }
 
 -- the job has begun, and has put nothing
-pub record IsOpened (s : ℕ) (config : JobConfig) (limits : Limits) (before now : View) (from : SourceTold) (o : Opened) : Type 0 where
+pub record IsOpened (s : ℕ) (config : JobConfig) (limits : Limits) (before now : View) (from : SourceTold)
+    (o : Opened) : Type 0 where
   pub job : IsJobOf (began_with s config limits before from o) o.job
   pub underway : IsUnderway (began_with s config limits before from o) now []
   pub waits : now.pending ≡ pending.Not

@@ -47,7 +47,8 @@ fn conclude<S: Shelf>(
     lens: &[u32],
 ) -> Result<(Recipe, Answer), Memory>
     requires { (b : Began) × (read : List ℕ) × IsJobOf b job.now × HasEnded b keeper.now ended lens.now read }
-    ensures { (b : Began) (read : List ℕ) → IsJobOf b job.now → HasEnded b keeper.now ended lens.now read → IfOk result (IsReady b keeper.now read) }
+    ensures { (b : Began) (read : List ℕ) → IsJobOf b job.now → HasEnded b keeper.now ended lens.now read
+        → IfOk result (IsReady b keeper.now read) }
 {
     let rows = ended.rest.rows.as_slice();
     let sparse = sparse_ids(
@@ -90,8 +91,10 @@ fn conclude_all<S: Shelf>(
     lens: &[u32],
 ) -> Result<(Recipe, Answer), Fault>
     requires { (b : Began) × (to : SourceTold) × IsJobOf b job.now × IsOver b keeper.now to lens.now ended }
-    ensures ok { (b : Began) (to : SourceTold) → IsJobOf b job.now → IsOver b keeper.now to lens.now ended → IfOk result (HasConcluded b keeper.now to) }
-    ensures err { (b : Began) (to : SourceTold) → IsJobOf b job.now → IsOver b keeper.now to lens.now ended → IfErr result (IsStopped b keeper.now to) }
+    ensures ok { (b : Began) (to : SourceTold) → IsJobOf b job.now → IsOver b keeper.now to lens.now ended
+        → IfOk result (HasConcluded b keeper.now to) }
+    ensures err { (b : Began) (to : SourceTold) → IsJobOf b job.now → IsOver b keeper.now to lens.now ended
+        → IfErr result (IsStopped b keeper.now to) }
 {
     match ended {
         Err(fault) => Err(fault),
@@ -109,8 +112,10 @@ pub fn close_job<S: Shelf>(
     ended: Result<Ended, Fault>,
     lens: &[u32],
 ) -> Result<Answer, Fault>
-    requires { (b : Began) × (to : SourceTold) × IsJobOf b job.now × (index ≡ b.index) × IsOver b keeper.old to lens.now ended }
-    ensures { (b : Began) (to : SourceTold) → IsJobOf b job.now → index ≡ b.index → IsOver b keeper.old to lens.now ended
+    requires { (b : Began) × (to : SourceTold) × IsJobOf b job.now × (index ≡ b.index)
+        × IsOver b keeper.old to lens.now ended }
+    ensures { (b : Began) (to : SourceTold) → IsJobOf b job.now → index ≡ b.index
+        → IsOver b keeper.old to lens.now ended
         → BacksUp b.set b.config b.limits b.keeper keeper.new b.source to result }
 {
     match conclude_all(alloc, keeper, job, ended, lens) {

@@ -33,7 +33,8 @@ pub fn backup_line<S: Shelf, I: Source>(
     requires high { limits.now.chunks ≤ 4194304 }
     requires last { limits.now.last ≤ 4294967294 }
     ensures line { (pins : List Pin) → BacksUpLine (IsStateWith keeper.old pins) (IsStateWith keeper.new pins)
-        (IsKnownStray keeper.old) (IsKnownStray keeper.new) limits.now set config.now keeper.old.told keeper.new.told
+        (IsKnownStray keeper.old) (IsKnownStray keeper.new) limits.now set config.now keeper.old.told
+        keeper.new.told
         (I.told source.old) (I.told source.new) result }
     ensures same { (keeper.new.job ≡ None) × (keeper.new.pins ≡ keeper.old.pins) }
 

@@ -42,8 +42,10 @@ index_of p = p.decider.index
 abbrev pub answers_of : Placer → Fp → Option ℕ
 answers_of p f = found_in (index_of p) f
 
--- the placer took these chunks by these rules, its first container has the id first, and it gave these containers out
-pub record HasPlaced (p : Placer) (r : Rules) (first : ℕ) (chunks : List NamedChunk) (gone : List Container) : Type 0 where
+-- the placer took these chunks by these rules, its first container has the id first, and it gave
+-- these containers out
+pub record HasPlaced (p : Placer) (r : Rules) (first : ℕ) (chunks : List NamedChunk)
+    (gone : List Container) : Type 0 where
   pub pushed : HasPushed p.segmenter r.config.segment (map size_of chunks)
   pub done : List (List NamedChunk)
   pub split : segments_of r.config chunks ≡ done ++ only_segment (map named_chunk p.segment.items)

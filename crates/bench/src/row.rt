@@ -34,7 +34,9 @@ impl Model for Row {
 
     ghost view = { λ r. record { sent = r.near.sent; taken = r.far.taken } };
 
-    ghost invariant = { λ r. (r.near.line ≡ r.inward) × (r.first.first.from.line ≡ r.inward) × (r.first.first.to.line ≡ r.between) × (r.second.first.from.line ≡ r.between) × (r.second.first.to.line ≡ r.outward) × (r.far.line ≡ r.outward) };
+    ghost invariant = { λ r. (r.near.line ≡ r.inward) × (r.first.first.from.line ≡ r.inward)
+        × (r.first.first.to.line ≡ r.between) × (r.second.first.from.line ≡ r.between)
+        × (r.second.first.to.line ≡ r.outward) × (r.far.line ≡ r.outward) };
 }
 
 impl Row {

@@ -24,7 +24,9 @@ ReadsAs view (Err e) read = Fails e read
 
 -- a number
 abbrev pub number_at : Width → Field ℕ
-number_at w bytes = if nat_lt (length bytes) (byte_len w) then None else Some (from_be_bytes w (take (byte_len w) bytes), drop (byte_len w) bytes)
+number_at w bytes =
+    if nat_lt (length bytes) (byte_len w) then None
+    else Some (from_be_bytes w (take (byte_len w) bytes), drop (byte_len w) bytes)
 
 -- a sum
 abbrev pub fp_at : Field Fp

@@ -24,7 +24,10 @@ table_of p = record { id = p.1.0; rows = p.1.1.0; payload_sum = p.1.1.1 }
 
 -- all of a table but the sum of the blob
 unfoldable pub table_at : Field Table
-table_at = made_at table_of (both_at (tag_at table_tag) (λ _. both_at (number_at w64) (λ _. both_at (list_at 24 table_row_at) (λ _. fp_at))))
+table_at =
+    made_at table_of
+    (both_at (tag_at table_tag)
+    (λ _. both_at (number_at w64) (λ _. both_at (list_at 24 table_row_at) (λ _. fp_at))))
 
 abbrev pub FitsTableRow : TableRow → Type 0
 FitsTableRow r = IsFp r.fp × (r.len < 2 ^ 32)
@@ -38,4 +41,6 @@ pub record HasTableWidths (t : Table) : Type 0 where
 
 -- the blob of a table without its sum
 abbrev pub table_head : Table → List ℕ
-table_head t = codes "DTB1" ++ u64_bytes t.id ++ u32_bytes (length t.rows) ++ flat_map table_row_bytes t.rows ++ t.payload_sum.0
+table_head t =
+    codes "DTB1" ++ u64_bytes t.id ++ u32_bytes (length t.rows) ++ flat_map table_row_bytes t.rows
+    ++ t.payload_sum.0

@@ -12,10 +12,12 @@ use Rattle.deletion_laws.specs.Deleting.{pinned_ids}
 abbrev pub released_ids : ℕ → List Pin → List ℕ
 released_ids number pins = pinned_ids (filter (λ p. p.number == number) pins)
 
--- whether nothing needs the id any more: a pin of this number lists it, no version names it, and no other pin lists it
+-- whether nothing needs the id any more: a pin of this number lists it, no version names it, and no
+-- other pin lists it
 abbrev pub is_released : Core → ℕ → ℕ → Bool
 is_released K number id =
-    has id (released_ids number K.pins) && (not (has id (named K.state)) && not (has id (pinned_ids (pins_without number K.pins))))
+    has id (released_ids number K.pins)
+    && (not (has id (named K.state)) && not (has id (pinned_ids (pins_without number K.pins))))
 
 -- the name of the table or of the payload of such a container
 pub record IsReleased (K : Core) (number : ℕ) (q : Name) : Type 0 where

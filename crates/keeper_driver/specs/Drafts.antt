@@ -1,4 +1,5 @@
--- What a keeper's events leave: no job, or an open one whose recipe may be committed once its rows are rows of a recipe.
+-- What a keeper's events leave: no job, or an open one whose recipe may be committed once its rows
+-- are rows of a recipe.
 use Rattle.std.specs.Prelude.{◌≡◌, ℕ, ◌+◌, List, map, length, Contains, ◌++◌, Some, None}
 use Rattle.std.specs.List.{AllByRecursion}
 use Rattle.vault_types.specs.declared.Row.{Row}

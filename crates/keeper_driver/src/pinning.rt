@@ -44,7 +44,8 @@ impl<S: Shelf> Model for Two<S> {
 
     ghost view = { λ s. tt };
 
-    ghost invariant = { λ s. IsPinning s.keeper s.first.no s.first.spots.items × IsPinning s.keeper s.second.no s.second.spots.items × (s.second.no ≢ s.first.no) };
+    ghost invariant = { λ s. IsPinning s.keeper s.first.no s.first.spots.items
+        × IsPinning s.keeper s.second.no s.second.spots.items × (s.second.no ≢ s.first.no) };
 }
 
 // Pins a version. Other pins stay, and have another number.
@@ -56,7 +57,8 @@ fn pin<S: Shelf>(
 ) -> Result<Pinned, Fault>
     requires { HasNoJob keeper.old }
     ensures pinned { IfOk result (λ p. IsPinning keeper.new p.no p.spots.items) }
-    ensures others { IfOk result (λ p. (n : ℕ) (spots : List Place) → IsPinning keeper.old n spots → IsPinning keeper.new n spots × (p.no ≡ n → ⊥)) }
+    ensures others { IfOk result (λ p. (n : ℕ) (spots : List Place) → IsPinning keeper.old n spots
+        → IsPinning keeper.new n spots × (p.no ≡ n → ⊥)) }
 {
     match keeper.pin(alloc, set, version) {
         Ok(pinned) => Ok(pinned),
@@ -90,7 +92,8 @@ fn load<S: Shelf>(alloc: Global, keeper: &mut Keeper<S>, pinned: &Pinned) -> Res
 fn release<S: Shelf>(keeper: &mut Keeper<S>, pinned: Pinned)
     requires { IsPinning keeper.old pinned.no pinned.spots.items }
     ensures idle { HasNoJob keeper.new }
-    ensures others { (n : ℕ) (spots : List Place) → (n ≡ pinned.no → ⊥) → IsPinning keeper.old n spots → IsPinning keeper.new n spots }
+    ensures others { (n : ℕ) (spots : List Place) → (n ≡ pinned.no → ⊥) → IsPinning keeper.old n spots
+        → IsPinning keeper.new n spots }
 {
     let Pinned { no, .. } = pinned;
     keeper.release(no);

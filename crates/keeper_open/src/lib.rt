@@ -64,10 +64,12 @@ pub struct Opened {
 /// `StoreFault` with the count of faults of the shelf; `Damaged` with the first place that is bad; `Memory`. Whatever is
 /// answered, the blobs are as before.
 pub fn open<S: Shelf>(alloc: Global, shelf: &mut S) -> Result<Opened, Fault>
-    ensures opened { IfOk result (λ o. (T : State) × IsStoreOpened (S.told shelf.old).blobs T o.catalog o.index) }
+    ensures opened { IfOk result (λ o. (T : State)
+        × IsStoreOpened (S.told shelf.old).blobs T o.catalog o.index) }
     ensures kept { IsAsBefore (S.told shelf.old) (S.told shelf.new) }
     ensures gets { (S.told shelf.new).gets ≡ (S.told shelf.old).gets }
-    ensures causes { HasCauses (S.told shelf.old).faults (S.told shelf.new).faults (IsDamageOf (S.told shelf.old).blobs) result }
+    ensures causes { HasCauses (S.told shelf.old).faults (S.told shelf.new).faults
+        (IsDamageOf (S.told shelf.old).blobs) result }
 {
     let names = survey(alloc, shelf)?;
     let floors = read_floors(alloc, shelf, names.as_slice())?;

@@ -57,7 +57,8 @@ fn push_rows(blob: &mut Vec<u8>, rows: &[Row]) -> Result<(), AllocError>
 /// The recipe of a version of a set that the bytes spell in format 1.
 pub fn read_plain(alloc: Global, bytes: &[u8], set: Set, version: Version) -> Result<Recipe, Unread>
     ensures found { IfOk result (λ r. SpellsRecipe set version bytes.now r) }
-    ensures none { IsErrOf result Unread.Spelling → (r : Recipes) → r.whole ≡ None → SpellsRecipe set version bytes.now r → ⊥ }
+    ensures none { IsErrOf result Unread.Spelling → (r : Recipes) → r.whole ≡ None
+        → SpellsRecipe set version bytes.now r → ⊥ }
 {
     let Some(body) = body_of(bytes, set) else {
         return Err(Unread::Spelling);

@@ -12,7 +12,8 @@ use vault_types::{Answer, Fault};
 /// Writes the whole text, unless the sink fails: then it has taken a front of it.
 pub fn write_all<O: Sink>(text: &[u8], out: &mut O) -> Result<(), Failed>
     ensures ok { OnOk result (Takes (O.told out.old).taken (O.told out.new).taken text.now) }
-    ensures err { OnErr result (Rose (O.told out.old).faults (O.told out.new).faults × TakesFront (O.told out.old) (O.told out.new) text.now) }
+    ensures err { OnErr result (Rose (O.told out.old).faults (O.told out.new).faults
+        × TakesFront (O.told out.old) (O.told out.new) text.now) }
     ensures later { (O.told out.old).faults ≤ (O.told out.new).faults }
 {
     vault_traits::write_all(text, out)

@@ -19,14 +19,16 @@ left_spots p = drop p.done p.spots.items
 abbrev pub left_bytes : (ℕ → List ℕ) → Progress → List ℕ
 left_bytes payload p = flat_map (spot_bytes payload) (left_spots p)
 
--- the steps that are left serve what is not yet written, the present payloads are long enough for their spots and no
--- more than the slots, and there is room for every slot
+-- the steps that are left serve what is not yet written, the present payloads are long enough for
+-- their spots and no more than the slots, and there is room for every slot
 pub record IsProgress (p : Progress) : Type 0 where
   pub within : p.done ≤ length p.spots.items
   pub few : length p.present.items ≤ p.slots
   pub room : p.slots ≤ vec_capacity p.present
   pub covering : AreCovering p.spots.items p.present.items
-  pub serves : IsTrue (serves p.slots (ids_of p.present.items) (drop p.step p.steps.items) (requests (map (λ s. s.id) (left_spots p))))
+  pub serves : IsTrue
+      (serves p.slots (ids_of p.present.items) (drop p.step p.steps.items)
+      (requests (map (λ s. s.id) (left_spots p))))
 
 -- the next step is a load
 abbrev pub starts_with_load : List Step → Bool
@@ -63,4 +65,13 @@ IsSumming p = p.done < length p.spots.items → is_some p.sum ≡ is_some p.whol
 
 -- what is seen of it
 abbrev pub seen_of : Progress → Copying
-seen_of p = record { spots = p.spots.items; done = p.done; steps = drop p.step p.steps.items; slots = p.slots; present = p.present.items; whole = p.whole; sum = p.sum }
+seen_of p =
+    record {
+      spots = p.spots.items;
+      done = p.done;
+      steps = drop p.step p.steps.items;
+      slots = p.slots;
+      present = p.present.items;
+      whole = p.whole;
+      sum = p.sum;
+    }

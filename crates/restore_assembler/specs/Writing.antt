@@ -16,7 +16,8 @@ pub record AreWritten (bytes : List ℕ) (before now : SinkTold) (sum sum' : Opt
   pub later : before.faults ≤ now.faults
 
 -- of these bytes a front was written, and the payload's bytes from `start` to `end` wait behind it
-pub record IsWaiting (payload bytes : List ℕ) (start end : ℕ) (before now : SinkTold) (sum sum' : Option RunningSum) : Type 0 where
+pub record IsWaiting (payload bytes : List ℕ) (start end : ℕ) (before now : SinkTold)
+    (sum sum' : Option RunningSum) : Type 0 where
   pub front : List ℕ
   pub parts : front ++ take (end - start) (drop start payload) ≡ bytes
   pub ordered : start ≤ end

@@ -41,7 +41,8 @@ impl Model for Copier {
 
     ghost view = { λ s. seen_of s.progress };
 
-    ghost invariant = { λ s. IsProgress s.progress × LoadsNext s.progress × IsSumming s.progress × HasEnds s.ends s.progress.spots.items };
+    ghost invariant = { λ s. IsProgress s.progress × LoadsNext s.progress × IsSumming s.progress
+        × HasEnds s.ends s.progress.spots.items };
 }
 
 impl Copier {
@@ -61,7 +62,8 @@ impl Copier {
         ensures slots { IfOk result (λ s. s.slots ≡ slots) }
         ensures start { IfOk result (λ s. s.done ≡ 0) }
         ensures whole { IfOk result (λ s. s.whole ≡ whole) }
-        ensures copied { IfOk result (λ s. (payloads : ℕ → List ℕ) (told : SinkTold) → HasCopied payloads told told s) }
+        ensures copied { IfOk result (λ s. (payloads : ℕ → List ℕ) (told : SinkTold)
+            → HasCopied payloads told told s) }
     {
         let ends = ends_of(alloc, spots.as_slice())?;
         let present = Vec::with_capacity(alloc, slots as usize)?;
@@ -90,7 +92,8 @@ impl Copier {
     pub fn wants(&self) -> Option<Id>
         ensures next { result ≡ wanted self.now }
         ensures done { IsNone result ↔ (self.now.done ≡ length self.now.spots) }
-        ensures all { IsNone result → (payloads : ℕ → List ℕ) (before now : SinkTold) → HasCopied payloads before now self.now
+        ensures all { IsNone result → (payloads : ℕ → List ℕ) (before now : SinkTold)
+            → HasCopied payloads before now self.now
             → Takes before.taken now.taken (version_bytes payloads self.now.spots) }
         ensures served { IsNone result → All (λ step. step ≢ Serve) self.now.steps }
     {
@@ -126,13 +129,17 @@ impl Copier {
         ensures later { (K.told sink.old).faults ≤ (K.told sink.new).faults }
 
         // What holds with any payloads of which this is the wanted one.
-        ensures ok { OnOk result ((payloads : ℕ → List ℕ) (before : SinkTold) → HasCopied payloads before (K.told sink.old) self.old
+        ensures ok { OnOk result ((payloads : ℕ → List ℕ) (before : SinkTold)
+            → HasCopied payloads before (K.told sink.old) self.old
             → IsWanted payloads self.old payload.items
             → HasCopied payloads before (K.told sink.new) self.new) }
-        ensures sum { OnOk result ((payloads : ℕ → List ℕ) (before : SinkTold) → HasCopied payloads before (K.told sink.old) self.old
+        ensures sum { OnOk result ((payloads : ℕ → List ℕ) (before : SinkTold)
+            → HasCopied payloads before (K.told sink.old) self.old
             → IsWanted payloads self.old payload.items
-            → wanted self.new ≡ None → IfSome self.old.whole (λ whole. fp (version_bytes payloads self.old.spots) ≡ whole.want)) }
-        ensures err { IfErr result (λ e. (payloads : ℕ → List ℕ) (before : SinkTold) → HasCopied payloads before (K.told sink.old) self.old
+            → wanted self.new ≡ None
+            → IfSome self.old.whole (λ whole. fp (version_bytes payloads self.old.spots) ≡ whole.want)) }
+        ensures err { IfErr result (λ e. (payloads : ℕ → List ℕ) (before : SinkTold)
+            → HasCopied payloads before (K.told sink.old) self.old
             → IsWanted payloads self.old payload.items
             → IsTakenAt (version_bytes payloads self.old.spots) before (K.told sink.new) e) }
 

@@ -61,10 +61,16 @@ impl Progress {
         ensures later { OnOk result ((K.told sink.old).faults ≤ (K.told sink.new).faults) }
         ensures failed { OnErr result (Rose (K.told sink.old).faults (K.told sink.new).faults) }
         ensures err_done { OnErr result (self.new.done ≡ self.old.done) }
-        ensures done { OnOk result (self.new.done ≡ self.old.done + run_length (first_id (left_spots self.old)) (left_spots self.old)) }
+        ensures done { OnOk result
+            (self.new.done
+            ≡ self.old.done + run_length (first_id (left_spots self.old)) (left_spots self.old)) }
         ensures within { OnOk result (self.new.done ≤ length self.old.spots.items) }
         ensures ok { OnOk result ((payload : ℕ → List ℕ) → AreKnown payload self.old.present.items
-            → AreWritten (flat_map (spot_bytes payload) (take (run_length (first_id (left_spots self.old)) (left_spots self.old)) (left_spots self.old))) (K.told sink.old) (K.told sink.new) self.old.sum self.new.sum) }
+            → AreWritten
+            (flat_map (spot_bytes payload)
+            (take (run_length (first_id (left_spots self.old)) (left_spots self.old))
+            (left_spots self.old)))
+            (K.told sink.old) (K.told sink.new) self.old.sum self.new.sum) }
         ensures err { OnErr result ((payload : ℕ → List ℕ) → AreKnown payload self.old.present.items
             → IsCutOff (left_bytes payload self.old) (K.told sink.old) (K.told sink.new)) }
     {
@@ -88,7 +94,8 @@ impl Progress {
         ensures whole { self.new.whole ≡ self.old.whole }
         ensures taken { IfOk result (λ taken. IsTrue taken → self.new.step ≡ self.old.step + 1) }
         ensures left { OnOk result (self.new.step ≤ length self.new.steps.items) }
-        ensures load { IfOk result (λ taken. taken ≡ false → IsTrue (starts_with_load (drop self.new.step self.new.steps.items))) }
+        ensures load { IfOk result (λ taken. taken ≡ false
+            → IsTrue (starts_with_load (drop self.new.step self.new.steps.items))) }
         ensures advances { OnOk result (Advances self.old self.new (K.told sink.old) (K.told sink.new)) }
         ensures err { OnErr result ((payload : ℕ → List ℕ) → AreKnown payload self.old.present.items
             → IsCutOff (left_bytes payload self.old) (K.told sink.old) (K.told sink.new)) }
@@ -135,7 +142,10 @@ impl Progress {
         requires ready { LoadsNext self.now }
         ensures next { result ≡ wanted_of (seen_of self.now) }
         ensures some { IsSome result ↔ (self.now.done < length self.now.spots.items) }
-        ensures step { IfSome result (λ id. drop self.now.step self.now.steps.items ≡ Load id ∷ drop (self.now.step + 1) self.now.steps.items) }
+        ensures step { IfSome result
+            (λ id.
+            drop self.now.step self.now.steps.items
+            ≡ Load id ∷ drop (self.now.step + 1) self.now.steps.items) }
     {
         if self.done == self.spots.len() {
             return None;
@@ -149,10 +159,12 @@ impl Progress {
     // Takes a load: the payload is present from then on.
     fn load(&mut self, id: Id, bytes: Vec<u8>)
         requires going { IsProgress self.old }
-        requires step { drop self.old.step self.old.steps.items ≡ Load id ∷ drop (self.old.step + 1) self.old.steps.items }
+        requires step { drop self.old.step self.old.steps.items
+            ≡ Load id ∷ drop (self.old.step + 1) self.old.steps.items }
         requires covers { Covers id bytes.items self.old.spots.items }
         ensures stays { self.new ≡ record self.old { present = self.new.present; step = self.old.step + 1 } }
-        ensures present { self.new.present.items ≡ record { id = id; bytes = bytes } ∷ self.old.present.items }
+        ensures present { self.new.present.items
+            ≡ record { id = id; bytes = bytes } ∷ self.old.present.items }
         ensures going { IsProgress self.new }
     {
         match self.present.insert(0, Payload { id, bytes }) {
@@ -164,7 +176,8 @@ impl Progress {
     // Lets all that is left go.
     fn stop(&mut self)
         requires { IsProgress self.old }
-        ensures stays { self.new ≡ record self.old { done = length self.old.spots.items; step = length self.old.steps.items } }
+        ensures stays { self.new
+            ≡ record self.old { done = length self.old.spots.items; step = length self.old.steps.items } }
         ensures going { IsProgress self.new }
     {
         self.done = self.spots.len();
@@ -176,10 +189,14 @@ impl Progress {
         ensures stays { self.new ≡ record self.old { sum = self.new.sum } }
         ensures early { self.old.done < length self.old.spots.items → self.new.sum ≡ self.old.sum }
         ensures late { length self.old.spots.items ≤ self.old.done → self.new.sum ≡ None }
-        ensures ok { OnOk result (length self.old.spots.items ≤ self.old.done → is_some self.old.sum ≡ is_some self.old.whole
-            → (bytes : List ℕ) → IsSumOf self.old.sum bytes → IfSome self.old.whole (λ whole. fp bytes ≡ whole.want)) }
-        ensures err { IfErr result (λ e. (length self.old.spots.items ≤ self.old.done) × (whole : Whole) × (found : Fp) × (self.old.whole ≡ Some whole) × (found ≢ whole.want)
-            × (e ≡ fault.Damaged kind.Recipe whole.number (why.Whole whole.want found)) × ((bytes : List ℕ) → IsSumOf self.old.sum bytes → found ≡ fp bytes)) }
+        ensures ok { OnOk result (length self.old.spots.items ≤ self.old.done
+            → is_some self.old.sum ≡ is_some self.old.whole
+            → (bytes : List ℕ) → IsSumOf self.old.sum bytes
+            → IfSome self.old.whole (λ whole. fp bytes ≡ whole.want)) }
+        ensures err { IfErr result (λ e. (length self.old.spots.items ≤ self.old.done) × (whole : Whole)
+            × (found : Fp) × (self.old.whole ≡ Some whole) × (found ≢ whole.want)
+            × (e ≡ fault.Damaged kind.Recipe whole.number (why.Whole whole.want found))
+            × ((bytes : List ℕ) → IsSumOf self.old.sum bytes → found ≡ fp bytes)) }
     {
         if self.done < self.spots.len() {
             return Ok(());
@@ -213,20 +230,27 @@ impl Progress {
         ensures spots { self.new.spots ≡ self.old.spots }
         ensures slots { self.new.slots ≡ self.old.slots }
         ensures whole { self.new.whole ≡ self.old.whole }
-        ensures loads { OnOk result (loads_of (seen_of self.new).steps + 1 ≡ loads_of (seen_of self.old).steps) }
-        ensures behind { OnOk result ((k : ℕ) × ((seen_of self.new).steps ≡ drop k (seen_of self.old).steps)) }
+        ensures loads { OnOk result
+            (loads_of (seen_of self.new).steps + 1 ≡ loads_of (seen_of self.old).steps) }
+        ensures behind { OnOk result ((k : ℕ)
+            × ((seen_of self.new).steps ≡ drop k (seen_of self.old).steps)) }
         ensures over { OnErr result (self.new.done ≡ length self.old.spots.items) }
         ensures later { (K.told sink.old).faults ≤ (K.told sink.new).faults }
 
-        ensures ok { OnOk result ((payloads : ℕ → List ℕ) (before : SinkTold) → HasCopied payloads before (K.told sink.old) (seen_of self.old)
+        ensures ok { OnOk result ((payloads : ℕ → List ℕ) (before : SinkTold)
+            → HasCopied payloads before (K.told sink.old) (seen_of self.old)
             → IsWanted payloads (seen_of self.old) payload.items
             → HasCopied payloads before (K.told sink.new) (seen_of self.new)) }
-        ensures sum { OnOk result ((payloads : ℕ → List ℕ) (before : SinkTold) → HasCopied payloads before (K.told sink.old) (seen_of self.old)
+        ensures sum { OnOk result ((payloads : ℕ → List ℕ) (before : SinkTold)
+            → HasCopied payloads before (K.told sink.old) (seen_of self.old)
             → IsWanted payloads (seen_of self.old) payload.items
-            → length self.old.spots.items ≤ self.new.done → IfSome self.old.whole (λ whole. fp (version_bytes payloads self.old.spots.items) ≡ whole.want)) }
+            → length self.old.spots.items ≤ self.new.done
+            → IfSome self.old.whole
+            (λ whole. fp (version_bytes payloads self.old.spots.items) ≡ whole.want)) }
 
         ensures cause { IfErr result (IsOutputFault self.old.whole (K.told sink.old) (K.told sink.new)) }
-        ensures err { IfErr result (λ e. (payloads : ℕ → List ℕ) (before : SinkTold) → HasCopied payloads before (K.told sink.old) (seen_of self.old)
+        ensures err { IfErr result (λ e. (payloads : ℕ → List ℕ) (before : SinkTold)
+            → HasCopied payloads before (K.told sink.old) (seen_of self.old)
             → IsWanted payloads (seen_of self.old) payload.items
             → IsTakenAt (version_bytes payloads self.old.spots.items) before (K.told sink.new) e) }
     {

@@ -32,8 +32,11 @@ pub fn write_run<K: Sink>(
     sink: &mut K,
 ) -> Result<(), Failed>
     requires { All (λ spot. spot.at + spot.len ≤ length payload.now) run.now }
-    ensures ok { OnOk result (AreWritten (flat_map (spot_bytes (λ _. payload.now)) run.now) (K.told sink.old) (K.told sink.new) sum.old sum.new) }
-    ensures err { OnErr result (IsCutOff (flat_map (spot_bytes (λ _. payload.now)) run.now) (K.told sink.old) (K.told sink.new)) }
+    ensures ok { OnOk result
+        (AreWritten (flat_map (spot_bytes (λ _. payload.now)) run.now) (K.told sink.old) (K.told sink.new)
+        sum.old sum.new) }
+    ensures err { OnErr result
+        (IsCutOff (flat_map (spot_bytes (λ _. payload.now)) run.now) (K.told sink.old) (K.told sink.new)) }
 {
     let mut start = 0;
     let mut end = 0;

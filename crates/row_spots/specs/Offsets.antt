@@ -13,7 +13,8 @@ use Rattle.row_spots.specs.declared.offsets.ChunkSpan.{ChunkSpan}
 -- the chunk under a fingerprint, where the chunks of these rows stand from a byte on
 abbrev pub place_from : ℕ → List TableRow → Fp → Option ChunkSpan
 place_from at [] f = None
-place_from at (r ∷ rows) f = if same_fp r.fp f then Some (record { at = at; len = r.len }) else place_from (at + r.len) rows f
+place_from at (r ∷ rows) f =
+    if same_fp r.fp f then Some (record { at = at; len = r.len }) else place_from (at + r.len) rows f
 
 -- the chunk under a fingerprint in the container of an id
 abbrev pub span_at : List (ℕ × Table) → ℕ → Fp → Option ChunkSpan
@@ -30,4 +31,5 @@ AreKnownPlaces tables known = (id : ℕ) → IfSome (lookup (nat_eq id) known) (
 -- the spot of a row at a place, if there is one with the row's length
 abbrev pub fitting_spot : Row → Option ChunkSpan → Option Spot
 fitting_spot r None = None
-fitting_spot r (Some p) = if nat_eq p.len r.len then Some (record { id = r.id; at = p.at; len = r.len }) else None
+fitting_spot r (Some p) =
+    if nat_eq p.len r.len then Some (record { id = r.id; at = p.at; len = r.len }) else None

@@ -30,7 +30,8 @@ fn make_known(
 ) -> Result<(), Memory>
     requires rules { AreRuled tables.now.entries }
     requires known { AreKnownPlaces tables.now.entries known.old.entries }
-    ensures there { OnOk result (IsSomeAnd (lookup (nat_eq id) known.new.entries) (ArePlaces tables.now.entries id)) }
+    ensures there { OnOk result
+        (IsSomeAnd (lookup (nat_eq id) known.new.entries) (ArePlaces tables.now.entries id)) }
     ensures known { OnOk result (AreKnownPlaces tables.now.entries known.new.entries) }
 {
     if !known.contains_key(&id) {
@@ -41,7 +42,8 @@ fn make_known(
 
 // The chunk that a row names, where its table is known and has it.
 fn place_of(known: &HashMap<Id, ChunkSpans>, row: &Row) -> Option<ChunkSpan>
-    ensures { result ≡ option_and_then (lookup (same_fp row.now.fp)) (lookup (nat_eq row.now.id) known.now.entries) }
+    ensures { result
+        ≡ option_and_then (lookup (same_fp row.now.fp)) (lookup (nat_eq row.now.id) known.now.entries) }
 {
     known.get(&row.id)?.get(&row.fp)
 }

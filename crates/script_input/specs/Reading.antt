@@ -14,5 +14,6 @@ pub record HasGiven (from to : SourceTold) (text : List ℕ) : Type 0 where
 abbrev pub IsTextFault : ℕ → SourceTold → SourceTold → Fault → Type 0
 IsTextFault limit from to fault.Memory = Unit {0}
 IsTextFault limit from to (fault.ReadFault n) = Rose from.faults n × (n ≤ to.faults)
-IsTextFault limit from to (fault.ScriptTooLong most) = (most ≡ limit) × IfSome from.left (λ text. limit < length text)
+IsTextFault limit from to (fault.ScriptTooLong most) =
+    (most ≡ limit) × IfSome from.left (λ text. limit < length text)
 IsTextFault limit from to other = ⊥

@@ -57,8 +57,10 @@ fn backup_line<K: Store, P: Places>(
 ) -> Answer
     requires config { IsInRange config.now }
     requires limits { AreLimits limits.now }
-    ensures { StepsLine K.shelf K.keeps K.strays limits.now (record { keeper = store.old; places = P.told places.old })
-        (line.Backup set name.now config.now) result (record { keeper = store.new; places = P.told places.new }) }
+    ensures { StepsLine K.shelf K.keeps K.strays limits.now
+        (record { keeper = store.old; places = P.told places.old })
+        (line.Backup set name.now config.now) result
+        (record { keeper = store.new; places = P.told places.new }) }
 {
     if store.full(set, limits) {
         return Answer::Refused(Fault::Full {
@@ -94,9 +96,13 @@ fn restore_line<K: Store, P: Places>(
 ) -> Answer
     requires some { 1 ≤ slots }
     requires few { slots ≤ 64 }
-    ensures room { (S : State) (other : Option Change) → K.keeps store.old S other → IsSome (P.told places.old).files → NeedsRoom P.room S (line.Restore set version name.now slots) result }
-    ensures steps { StepsLine K.shelf K.keeps K.strays limits.now (record { keeper = store.old; places = P.told places.old })
-        (line.Restore set version name.now slots) result (record { keeper = store.new; places = P.told places.new }) }
+    ensures room { (S : State) (other : Option Change) → K.keeps store.old S other
+        → IsSome (P.told places.old).files
+        → NeedsRoom P.room S (line.Restore set version name.now slots) result }
+    ensures steps { StepsLine K.shelf K.keeps K.strays limits.now
+        (record { keeper = store.old; places = P.told places.old })
+        (line.Restore set version name.now slots) result
+        (record { keeper = store.new; places = P.told places.new }) }
 {
     if !store.kept(set, version) {
         return Answer::Refused(Fault::NotKept {
@@ -128,7 +134,8 @@ fn delete_line<K: Store, P: Places>(
     places: &P,
     limits: &Limits,
 ) -> Answer
-    ensures { StepsLine K.shelf K.keeps K.strays limits.now (record { keeper = store.old; places = P.told places.now })
+    ensures { StepsLine K.shelf K.keeps K.strays limits.now
+        (record { keeper = store.old; places = P.told places.now })
         (line.Delete set through) result (record { keeper = store.new; places = P.told places.now }) }
 {
     match store.delete(set, through) {
@@ -146,8 +153,10 @@ fn one_line<K: Store, P: Places>(
 ) -> Answer
     requires range { IsLineInRange line.now }
     requires limits { AreLimits limits.now }
-    ensures room { (S : State) (other : Option Change) → K.keeps store.old S other → IsSome (P.told places.old).files → NeedsRoom P.room S line.now result }
-    ensures steps { StepsLine K.shelf K.keeps K.strays limits.now (record { keeper = store.old; places = P.told places.old })
+    ensures room { (S : State) (other : Option Change) → K.keeps store.old S other
+        → IsSome (P.told places.old).files → NeedsRoom P.room S line.now result }
+    ensures steps { StepsLine K.shelf K.keeps K.strays limits.now
+        (record { keeper = store.old; places = P.told places.old })
         line.now result (record { keeper = store.new; places = P.told places.new }) }
 {
     match line {
@@ -177,8 +186,14 @@ pub fn script_plain<K: Store, P: Places>(
     requires apart { AreApartLines lines.now }
     requires ranges { AllByRecursion IsLineInRange lines.now }
     requires limits { AreLimits limits.now }
-    ensures runs { IfOk result (λ done. RunsLines true (λ S. K.keeps store S None) (λ S. K.strays store) limits.now lines.now done.answers.items (K.shelf store) (K.shelf done.store) (P.told places.old) (P.told places.new)) }
-    ensures room { IfOk result (λ done. (S : State) (sources : Sources) → K.keeps store S None → AreFedBy (P.told places.old).files sources lines.now → IsSome (P.told places.old).files → NeedRoom P.room sources S lines.now done.answers.items) }
+    ensures runs { IfOk result
+        (λ done.
+        RunsLines true (λ S. K.keeps store S None) (λ S. K.strays store) limits.now lines.now
+        done.answers.items (K.shelf store) (K.shelf done.store) (P.told places.old)
+        (P.told places.new)) }
+    ensures room { IfOk result (λ done. (S : State) (sources : Sources) → K.keeps store S None
+        → AreFedBy (P.told places.old).files sources lines.now → IsSome (P.told places.old).files
+        → NeedRoom P.room sources S lines.now done.answers.items) }
     ensures memory { IfErr result (λ e. (e.1 ≡ store) × (P.told places.new ≡ P.told places.old)) }
 {
     let mut store = store;

@@ -47,4 +47,6 @@ pub record NumbersFit (settings : Settings) : Type 0 where
 -- what the first setting of some words is, and how many words it is, if it is one
 abbrev pub FirstSetting : List (List ℕ) → Option ((List ℕ × List ℕ) × ℕ) → Type 0
 FirstSetting words None = settings_of words ≡ None
-FirstSetting words (Some r) = (0 < r.1) × (r.1 ≤ length words) × (settings_of words ≡ with_setting (Some r.0) (settings_of (drop r.1 words)))
+FirstSetting words (Some r) =
+    (0 < r.1) × (r.1 ≤ length words)
+    × (settings_of words ≡ with_setting (Some r.0) (settings_of (drop r.1 words)))

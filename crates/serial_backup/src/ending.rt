@@ -32,10 +32,12 @@ fn put_rest<S: Shelf>(
     full: Vec<Sealed>,
     lens: &mut Vec<u32>,
 ) -> Result<Ended, Fault>
-    requires { (b : Began) × (read : List ℕ) × HasPassedAll b keeper.old passed full.items lens.old.items read }
+    requires { (b : Began) × (read : List ℕ)
+        × HasPassedAll b keeper.old passed full.items lens.old.items read }
     ensures ok { (b : Began) (read : List ℕ) → HasPassedAll b keeper.old passed full.items lens.old.items read
         → IfOk result (λ e. HasEnded b keeper.new e lens.new.items read) }
-    ensures err { (b : Began) (read : List ℕ) → HasPassedAll b keeper.old passed full.items lens.old.items read
+    ensures err { (b : Began) (read : List ℕ)
+        → HasPassedAll b keeper.old passed full.items lens.old.items read
         → IfErr result (IsHalted b keeper.new (IsTooManyInAll b read)) }
 {
     let Passed { filled, whole } = passed;

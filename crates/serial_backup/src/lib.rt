@@ -31,7 +31,8 @@ fn run<S: Shelf, I: Source>(
 ) -> (Index, Result<Ended, Fault>)
     requires { (b : Began) × IsGoing b keeper.old (I.told source.old) pass lens.old.items [] }
     ensures index { result.0 ≡ index_in pass }
-    ensures over { (b : Began) → IsGoing b keeper.old (I.told source.old) pass lens.old.items [] → IsOver b keeper.new (I.told source.new) lens.new.items result.1 }
+    ensures over { (b : Began) → IsGoing b keeper.old (I.told source.old) pass lens.old.items []
+        → IsOver b keeper.new (I.told source.new) lens.new.items result.1 }
 {
     let mut pass = pass;
     match read_all(alloc, keeper, source, &mut pass, lens) {
@@ -57,7 +58,8 @@ pub fn backup_plain<S: Shelf, I: Source>(
     requires low { 1 ≤ limits.now.chunks }
     requires high { limits.now.chunks ≤ 4194304 }
     requires last { limits.now.last ≤ 4294967294 }
-    ensures { BacksUp set config.now limits.now keeper.old keeper.new (I.told source.old) (I.told source.new) result }
+    ensures { BacksUp set config.now limits.now keeper.old keeper.new (I.told source.old) (I.told source.new)
+        result }
 {
     let opened = open_job(alloc, keeper, set, config, limits)?;
     let Opened { job, sparse, index } = opened;

@@ -7,8 +7,9 @@ use Rattle.vault_types.specs.State.{State, IsValid}
 use Rattle.vault_types.specs.Events.{Core, Change, Pin, IsNear}
 use Rattle.keeper_catalog.specs.View.{View, Keeps}
 
--- over a shelf that tells its blobs, with no job and these pins, the keeper keeps the state, and a failed write may have
--- made the change, whose state is valid; where no mending is due, a crash leaves only what is near the state
+-- over a shelf that tells its blobs, with no job and these pins, the keeper keeps the state, and a
+-- failed write may have made the change, whose state is valid; where no mending is due, a crash
+-- leaves only what is near the state
 pub record IsStateWith (v : View) (ps : List Pin) (S : State) (other : Option Change) : Type 0 where
   pub core : Core
   pub keeps : Keeps v core

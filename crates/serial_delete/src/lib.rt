@@ -22,7 +22,8 @@ pub fn delete_plain<S: Shelf>(
 ) -> Result<Answer, Fault>
     requires { keeper.old.job ≡ None }
     ensures line { (pins : List Pin) → DeletesLine (IsStateWith keeper.old pins) (IsStateWith keeper.new pins)
-        (IsKnownStray keeper.old) (IsKnownStray keeper.new) set through keeper.old.told keeper.new.told result }
+        (IsKnownStray keeper.old) (IsKnownStray keeper.new) set through keeper.old.told keeper.new.told
+        result }
     ensures same { (keeper.new.job ≡ None) × (keeper.new.pins ≡ keeper.old.pins) }
 
     // Each pin stays, with its containers.

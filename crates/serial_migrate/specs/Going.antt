@@ -39,15 +39,19 @@ abbrev pub without_write : Fault → Fault
 without_write (fault.WriteFault n) = fault.Memory
 without_write other = other
 
--- what is done for one version leaves the state, and the change from before or none. Each recipe of another version has
--- its bytes, and the own one has them or is in the second format
+-- what is done for one version leaves the state, and the change from before or none. Each recipe of
+-- another version has its bytes, and the own one has them or is in the second format
 pub record LeavesOne (u v : View) (S : State) (other next : Option Change) (s n : ℕ) : Type 0 where
   pub keeps : IsStateOf v S next
   pub next_other : (next ≡ None) ⊎ (next ≡ other)
-  pub others : (t m : ℕ) → m ≤ latest_of S t → recipe_name t m ≢ recipe_name s n → blob_at v.told.blobs (recipe_name t m) ≡ blob_at u.told.blobs (recipe_name t m)
-  pub own : (k : KeptVersion) → version_of S s n ≡ Some k → (blob_at v.told.blobs (recipe_name s n) ≡ blob_at u.told.blobs (recipe_name s n)) ⊎ IsSecond v.told.blobs s n k
+  pub others : (t m : ℕ) → m ≤ latest_of S t → recipe_name t m ≢ recipe_name s n
+      → blob_at v.told.blobs (recipe_name t m) ≡ blob_at u.told.blobs (recipe_name t m)
+  pub own : (k : KeptVersion) → version_of S s n ≡ Some k
+      → (blob_at v.told.blobs (recipe_name s n) ≡ blob_at u.told.blobs (recipe_name s n))
+      ⊎ IsSecond v.told.blobs s n k
   pub strays : (q : Name) → IsKnownStray v q → IsKnownStray u q
-  pub any_moment : LeavesNowIfTold u.told.history (IsNear S other) → LeavesOnlyIfTold u.told.history v.told.history (IsNear S other)
+  pub any_moment : LeavesNowIfTold u.told.history (IsNear S other)
+      → LeavesOnlyIfTold u.told.history v.told.history (IsNear S other)
 
 -- payloads are got as often as a restore of the version has loads at least
 pub record LoadsLeast (u v : View) (S : State) (s n : ℕ) : Type 0 where
@@ -66,7 +70,8 @@ pub record PutAgain (u v : View) (S : State) (other : Option Change) (s n : ℕ)
   pub leaves : LeavesOne u v S other None s n
   pub second : (k : KeptVersion) → version_of S s n ≡ Some k → IsSecond v.told.blobs s n k
   pub loads : LoadsLeast u v S s n
-  pub behind : LeavesNowIfTold u.told.history (IsNear S other) → LeavesNowIfTold v.told.history (IsNear S None)
+  pub behind : LeavesNowIfTold u.told.history (IsNear S other)
+      → LeavesNowIfTold v.told.history (IsNear S None)
 
 -- that was refused. Over a sound state there was no memory, or a fault was counted
 pub record Stopped (u v : View) (S : State) (other : Option Change) (s n : ℕ) (f : Fault) : Type 0 where
@@ -78,7 +83,8 @@ pub record Stopped (u v : View) (S : State) (other : Option Change) (s n : ℕ) 
   pub damage : ShowsKeptDamage S (Refused f)
   pub sound : IsSound S → (f ≡ fault.Memory) ⊎ IsTrue (is_counted (Refused f))
 
--- one version was gone through: its recipe is in the second format, and was put again where it was in the first
+-- one version was gone through: its recipe is in the second format, and was put again where it was
+-- in the first
 pub record Went (u v : View) (S : State) (other : Option Change) (s n : ℕ) (put : Bool) : Type 0 where
   pub next : Option Change
   pub leaves : LeavesOne u v S other next s n
@@ -86,7 +92,8 @@ pub record Went (u v : View) (S : State) (other : Option Change) (s n : ℕ) (pu
   pub loads : ℕ
   pub have : HaveFirst u.told.blobs S ((s, n) ∷ []) (if put then 1 else 0) loads
   pub gets : v.told.gets ≡ counted_up u.told.gets loads
-  pub behind : LeavesNowIfTold u.told.history (IsNear S other) → LeavesNowIfTold v.told.history (IsNear S next)
+  pub behind : LeavesNowIfTold u.told.history (IsNear S other)
+      → LeavesNowIfTold v.told.history (IsNear S next)
 
 -- a refusal there: no payload was got where the recipe was in the second format
 pub record Halted (u v : View) (S : State) (other : Option Change) (s n : ℕ) (f : Fault) : Type 0 where
@@ -94,15 +101,20 @@ pub record Halted (u v : View) (S : State) (other : Option Change) (s n : ℕ) (
   pub few : (recipes least : ℕ) → HaveFirst u.told.blobs S ((s, n) ∷ []) recipes least → stopped.loads ≤ least
 
 -- all versions before that one were gone through, which these are
-pub record Gone (u v : View) (S : State) (other : Option Change) (set number : ℕ) (versions : List (ℕ × ℕ)) (recipes : ℕ) : Type 0 where
+pub record Gone (u v : View) (S : State) (other : Option Change) (set number : ℕ) (versions : List (ℕ × ℕ))
+    (recipes : ℕ) : Type 0 where
   pub next : Option Change
   pub keeps : IsStateOf v S next
   pub next_other : (next ≡ None) ⊎ (next ≡ other)
-  pub done : (s n : ℕ) (k : KeptVersion) → version_of S s n ≡ Some k → IsBefore s n set number → IsSecond v.told.blobs s n k
-  pub rest : (s n : ℕ) (k : KeptVersion) → version_of S s n ≡ Some k → (IsBefore s n set number → ⊥) → blob_at v.told.blobs (recipe_name s n) ≡ blob_at u.told.blobs (recipe_name s n)
+  pub done : (s n : ℕ) (k : KeptVersion) → version_of S s n ≡ Some k → IsBefore s n set number
+      → IsSecond v.told.blobs s n k
+  pub rest : (s n : ℕ) (k : KeptVersion) → version_of S s n ≡ Some k → (IsBefore s n set number → ⊥)
+      → blob_at v.told.blobs (recipe_name s n) ≡ blob_at u.told.blobs (recipe_name s n)
   pub strays : (q : Name) → IsKnownStray v q → IsKnownStray u q
-  pub any_moment : LeavesNowIfTold u.told.history (IsNear S other) → LeavesOnlyIfTold u.told.history v.told.history (IsNear S other)
-  pub behind : LeavesNowIfTold u.told.history (IsNear S other) → LeavesNowIfTold v.told.history (IsNear S next)
+  pub any_moment : LeavesNowIfTold u.told.history (IsNear S other)
+      → LeavesOnlyIfTold u.told.history v.told.history (IsNear S other)
+  pub behind : LeavesNowIfTold u.told.history (IsNear S other)
+      → LeavesNowIfTold v.told.history (IsNear S next)
   pub loads : ℕ
   pub have : HaveFirst u.told.blobs S versions recipes loads
   pub gets : v.told.gets ≡ counted_up u.told.gets loads
@@ -116,9 +128,12 @@ pub record HasEndedBy (u v : View) (S : State) (other : Option Change) (f : Faul
   pub next : Option Change
   pub keeps : IsStateOf v S next
   pub next_other : (next ≡ None) ⊎ (next ≡ other)
-  pub forms : (s n : ℕ) (k : KeptVersion) → version_of S s n ≡ Some k → (blob_at v.told.blobs (recipe_name s n) ≡ blob_at u.told.blobs (recipe_name s n)) ⊎ IsSecond v.told.blobs s n k
+  pub forms : (s n : ℕ) (k : KeptVersion) → version_of S s n ≡ Some k
+      → (blob_at v.told.blobs (recipe_name s n) ≡ blob_at u.told.blobs (recipe_name s n))
+      ⊎ IsSecond v.told.blobs s n k
   pub strays : (q : Name) → IsKnownStray v q → IsKnownStray u q
-  pub any_moment : LeavesNowIfTold u.told.history (IsNear S other) → LeavesOnlyIfTold u.told.history v.told.history (IsNear S other)
+  pub any_moment : LeavesNowIfTold u.told.history (IsNear S other)
+      → LeavesOnlyIfTold u.told.history v.told.history (IsNear S other)
   pub loads : ℕ
   pub few : (recipes least : ℕ) → HaveFirst u.told.blobs S (kept_versions S) recipes least → loads ≤ least
   pub gets : v.told.gets ≡ counted_up u.told.gets loads

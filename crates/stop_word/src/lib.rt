@@ -32,9 +32,17 @@ impl Model for Holder {
 
     ghost Value = { HolderState };
 
-    ghost view = { λ h. record { family = record { word = h.seat.table_id; count = (arc_value h.board).shared.key }; number = h.number; raised = h.seat.me.0.raised; saw = h.seat.me.0.saw } };
+    ghost view = { λ h.
+        record {
+          family = record { word = h.seat.table_id; count = (arc_value h.board).shared.key };
+          number = h.number;
+          raised = h.seat.me.0.raised;
+          saw = h.seat.me.0.saw;
+        } };
 
-    ghost invariant = { λ h. (h.seat.table_id ≡ (arc_value h.board).shared.table_id) × ((arc_value h.board).shared.table_id.words ≡ 1) × (h.seat.me.1 ≡ []) × (h.seat.me.0.parts ≡ 1) × (h.seat.me.0.raised ≡ h.raised) };
+    ghost invariant = { λ h. (h.seat.table_id ≡ (arc_value h.board).shared.table_id)
+        × ((arc_value h.board).shared.table_id.words ≡ 1) × (h.seat.me.1 ≡ []) × (h.seat.me.0.parts ≡ 1)
+        × (h.seat.me.0.raised ≡ h.raised) };
 }
 
 impl Holder {
@@ -113,14 +121,22 @@ impl Model for Pile {
 
     ghost Value = { Gathered };
 
-    ghost view = { λ h. record { family = record { word = h.seat.table_id; count = (arc_value h.board).shared.key }; parts = h.seat.me.0.parts; raised = h.seat.me.0.raised; saw = h.seat.me.0.saw } };
+    ghost view = { λ h.
+        record {
+          family = record { word = h.seat.table_id; count = (arc_value h.board).shared.key };
+          parts = h.seat.me.0.parts;
+          raised = h.seat.me.0.raised;
+          saw = h.seat.me.0.saw;
+        } };
 
-    ghost invariant = { λ h. (h.seat.table_id ≡ (arc_value h.board).shared.table_id) × ((arc_value h.board).shared.table_id.words ≡ 1) × (h.seat.me.1 ≡ []) × (0 < h.seat.me.0.parts) };
+    ghost invariant = { λ h. (h.seat.table_id ≡ (arc_value h.board).shared.table_id)
+        × ((arc_value h.board).shared.table_id.words ≡ 1) × (h.seat.me.1 ≡ []) × (0 < h.seat.me.0.parts) };
 }
 
 impl Pile {
     fn of(holder: Holder) -> Pile
-        ensures { result ≡ record { family = holder.family; parts = 1; raised = holder.raised; saw = holder.saw } }
+        ensures { result
+            ≡ record { family = holder.family; parts = 1; raised = holder.raised; saw = holder.saw } }
     {
         let Holder { board, seat, .. } = holder;
         Pile { board, seat }
@@ -128,7 +144,13 @@ impl Pile {
 
     fn add(&mut self, holder: Holder)
         requires { holder.family ≡ self.old.family }
-        ensures { self.new ≡ record { family = self.old.family; parts = self.old.parts + 1; raised = self.old.raised || holder.raised; saw = self.old.saw || holder.saw } }
+        ensures { self.new
+            ≡ record {
+              family = self.old.family;
+              parts = self.old.parts + 1;
+              raised = self.old.raised || holder.raised;
+              saw = self.old.saw || holder.saw;
+            } }
     {
         let Holder { seat, .. } = holder;
         self.board.shared.join_seat::<Seats>(&mut self.seat, seat);

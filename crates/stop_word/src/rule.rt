@@ -45,14 +45,16 @@ impl Play<(), View> for Raises {
 pub struct Looks;
 
 impl Play<(), View> for Looks {
-    ghost then = { λ step me n after. (after ≡ (seen_as me.0.parts me.0.raised (me.0.saw || (n == 1)), me.1)) × (me.0.raised || me.0.saw ≡ true → n ≡ 1) };
+    ghost then = { λ step me n after. (after ≡ (seen_as me.0.parts me.0.raised (me.0.saw || (n == 1)), me.1))
+        × (me.0.raised || me.0.saw ≡ true → n ≡ 1) };
 }
 
 // A look by one that has every part.
 pub struct Knows;
 
 impl Play<(), View> for Knows {
-    ghost then = { λ step me n after. (after.0 ≡ me.0) × ((n == 1) ≡ me.0.raised) × (me.0.saw ≡ true → n ≡ 1) };
+    ghost then = { λ step me n after. (after.0 ≡ me.0) × ((n == 1) ≡ me.0.raised)
+        × (me.0.saw ≡ true → n ≡ 1) };
 }
 
 pub type Board = Table<(), View, u32, Rule, Global>;

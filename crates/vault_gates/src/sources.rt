@@ -25,7 +25,8 @@ impl Model for GateSource {
 
     ghost Value = { GatedGiving };
 
-    ghost view = { λ s. record { pieces = s.pieces; nth = s.guard.nth; calls = s.guard.calls; faults = s.faults } };
+    ghost view = { λ s.
+        record { pieces = s.pieces; nth = s.guard.nth; calls = s.guard.calls; faults = s.faults } };
 }
 
 impl GateSource {
@@ -33,7 +34,8 @@ impl GateSource {
     /// memory.
     pub fn new(pieces: Vec<Vec<u8>>, nth: u64, gate: Gate) -> Self
         requires { All (λ p. 0 < length p.items) pieces.items }
-        ensures { result ≡ record { pieces = map (λ p. p.items) pieces.items; nth = nth; calls = 0; faults = 0 } }
+        ensures { result
+            ≡ record { pieces = map (λ p. p.items) pieces.items; nth = nth; calls = 0; faults = 0 } }
     {
         GateSource {
             pieces: Pieces::new(pieces),
@@ -66,7 +68,8 @@ impl Source for GateSource {
     fn read(&mut self, buf: &mut [u8]) -> Result<usize, Failed>
         requires { 0 < length buf.old }
         ensures fits { IfOk result (λ n. n ≤ length buf.old) }
-        ensures given { IfOk result (λ n. Gives (Some (concat self.old.pieces)) (Some (concat self.new.pieces)) (take n buf.new)) }
+        ensures given { IfOk result
+            (λ n. Gives (Some (concat self.old.pieces)) (Some (concat self.new.pieces)) (take n buf.new)) }
         ensures end { IfOk result (λ n. n ≡ 0 → self.old.pieces ≡ []) }
         ensures err { OnErr result (self.new.pieces ≡ self.old.pieces) }
         ensures buffer { OnErr result (buf.new ≡ buf.old) }
@@ -74,7 +77,12 @@ impl Source for GateSource {
         ensures fails { IsErr result → counted self.old.calls ≡ self.old.nth }
         ensures many { IfOk result (λ n. n ≡ min (length (first_piece self.old.pieces)) (length buf.old)) }
         ensures rest { IfOk result (λ n. self.new.pieces ≡ once_given n self.old.pieces) }
-        ensures counts { self.new ≡ record self.old { pieces = self.new.pieces; calls = counted self.old.calls; faults = counted_if (is_err result) self.old.faults } }
+        ensures counts { self.new
+            ≡ record self.old {
+              pieces = self.new.pieces;
+              calls = counted self.old.calls;
+              faults = counted_if (is_err result) self.old.faults;
+            } }
     {
         if !self.guard.lets_go_on() {
             self.faults = self.faults.saturating_add(1);

@@ -16,7 +16,8 @@ abbrev pub fault_of : ℕ → Refused → Fault
 fault_of faults refused.Failed = fault.StoreFault faults
 fault_of faults refused.Memory = fault.Memory
 
--- a fault of a call: the shelf failed in it, and the number is the count then; no memory; or damage that was shown
+-- a fault of a call: the shelf failed in it, and the number is the count then; no memory; or damage
+-- that was shown
 abbrev pub IsCause : ℕ → ℕ → (Kind → ℕ → Why → Type 0) → Fault → Type 0
 IsCause before now IsShown (fault.StoreFault n) = (n ≡ now) × Rose before now
 IsCause before now IsShown (fault.Damaged kind number why) = IsShown kind number why
@@ -28,7 +29,8 @@ abbrev pub IsUndamaged : Kind → ℕ → Why → Type 0
 IsUndamaged kind number why = ⊥
 
 -- the count of the shelf's faults hasn't fallen, and each fault has its cause
-pub record HasCauses {T : Type 0} (before now : ℕ) (IsShown : Kind → ℕ → Why → Type 0) (result : Result T Fault) : Type 0 where
+pub record HasCauses {T : Type 0} (before now : ℕ) (IsShown : Kind → ℕ → Why → Type 0)
+    (result : Result T Fault) : Type 0 where
   pub later : before ≤ now
   pub each : IfErr result (IsCause before now IsShown)
 

@@ -4,8 +4,8 @@ use Rattle.std.specs.Option.{option_map}
 use Rattle.vault_types.specs.Shelf.{Blobs}
 use Rattle.vault_traits.specs.Crash.{History}
 
--- of a shelf: its blobs, and the steps from which follows what a crash leaves, where it tells them; how often it
--- failed; how many gets of a payload there were
+-- of a shelf: its blobs, and the steps from which follows what a crash leaves, where it tells them;
+-- how often it failed; how many gets of a payload there were
 pub record ShelfTold : Type 0 where
   pub blobs : Option Blobs
   pub history : Option History
@@ -26,8 +26,8 @@ pub record SinkTold : Type 0 where
 abbrev pub Files : Type 0
 Files = List ℕ → Option (List ℕ)
 
--- of places: the bytes under each name, where they tell them; how often an opening failed, and how often those
--- readers and writers failed that were closed
+-- of places: the bytes under each name, where they tell them; how often an opening failed, and how
+-- often those readers and writers failed that were closed
 pub record PlacesTold : Type 0 where
   pub files : Option Files
   pub faults : ℕ

@@ -40,7 +40,8 @@ version_at places name = option_map_or (λ p. p.version) (place_at places name) 
 
 -- what was written under a name
 abbrev pub output_at : List FillPlace → List ℕ → Option (List ℕ)
-output_at places name = option_map_or (λ p. option_map_or (λ v. None) p.version (Some p.bytes)) (place_at places name) None
+output_at places name =
+    option_map_or (λ p. option_map_or (λ v. None) p.version (Some p.bytes)) (place_at places name) None
 
 unfoldable pub generated_version : ℕ → ℕ → List ℕ
 generated_version seed v = generated seed v
@@ -54,11 +55,18 @@ file_at seed places name = option_map (λ p. bytes_of_place seed p) (place_at pl
 
 -- what they tell: no opening and no reader fails
 abbrev pub told_of : FilledPlaces → PlacesTold
-told_of p = record { files = Some (file_at p.seed p.places); faults = 0; read_faults = 0; write_faults = p.write_faults }
+told_of p =
+    record {
+      files = Some (file_at p.seed p.places);
+      faults = 0;
+      read_faults = 0;
+      write_faults = p.write_faults;
+    }
 
 -- the name has these bytes now, and each other what it had
 abbrev pub IsPlaced : List FillPlace → List FillPlace → List ℕ → List ℕ → Type 0
-IsPlaced old new name bytes = (q : List ℕ) → place_at new q ≡ cond (bytes_eq q name) (Some (written name bytes)) (place_at old q)
+IsPlaced old new name bytes =
+    (q : List ℕ) → place_at new q ≡ cond (bytes_eq q name) (Some (written name bytes)) (place_at old q)
 
 -- the name stands first at that place
 abbrev pub IsFirst : List FillPlace → List ℕ → ℕ → Type 0

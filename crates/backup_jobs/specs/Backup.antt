@@ -134,8 +134,8 @@ pub record BacksUp (s : ℕ) (config : JobConfig) (limits : Limits) (v w : View)
   pub gets : w.told.gets ≡ v.told.gets
   pub store_later : v.told.faults ≤ w.told.faults
   pub source_later : from.faults ≤ to.faults
-  -- where a crash before could leave only this store, one at any moment leaves it or the one after the backup; at Ok only
-  -- that, whatever it could leave before
+  -- where a crash before could leave only this store, one at any moment leaves it or the one after the
+  -- backup; at Ok only that, whatever it could leave before
   pub crash : (K : Core) → Keeps v K → LeavesNowIfTold v.told.history (IsNear K.state K.other)
       → LeavesOnlyIfTold v.told.history w.told.history (λ c. IsNear K.state K.other c
       ⊎ Stands c (backup K.state s read config))

@@ -77,9 +77,8 @@ pub fn calls_are_runs<K: StateKeeper>()
         (result : Result Answer Fault) (f : Option Fault)
         → IsSameBut before.shelf (K.shelf k) → now.shelf ≡ K.shelf k'
         → ((S : State) → Begins before.shelf S → (n : Name) → K.strays k n → StraysOf before.shelf S n)
-        → ((S : State) → Begins before.shelf S → K.keeps k S None)
-        → BacksUpLine (K.keeps k) (K.keeps k') (K.strays k) (K.strays k') limits s config (K.shelf k)
-        (K.shelf k') before.input now.input result
+        → ((S : State) → Begins before.shelf S → K.keeps k S None) → BacksUpLine (K.keeps k) (K.keeps k')
+        (K.strays k) (K.strays k') limits s config (K.shelf k) (K.shelf k') before.input now.input result
         → IsPrinted (report_text (answer_of result ∷ [])) before.out now.out f → now.report ≡ before.report
         → now.places ≡ before.places → RunsBackup s config limits before now (answer_of result ∷ []) f }
     ensures restore { (limits : Limits) (before now : World) (k k' : K) (s v slots : ℕ)

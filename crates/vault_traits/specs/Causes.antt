@@ -1,12 +1,9 @@
 -- Why a call over a shelf was refused.
-use Rattle.std.specs.Prelude.{◌≡◌, ◌≤◌, ℕ, List, Option, Result, IfErr, IfSome}
-use Rattle.std.specs.FinMap as map
+use Rattle.std.specs.Prelude.{◌≡◌, ◌≤◌, ℕ, Result, IfErr}
 use Rattle.vault_types.specs.declared.Kind.{Kind}
-use Rattle.vault_types.specs.declared.Name.{Name}
 use Rattle.vault_types.specs.declared.Why.{Why}
 use Rattle.vault_types.specs.declared.Fault.{Fault}
 use Rattle.vault_types.specs.declared.Fault.TheVariants as fault
-use Rattle.vault_types.specs.Shelf.{Blobs}
 use Rattle.vault_traits.specs.declared.names.Refused.{Refused}
 use Rattle.vault_traits.specs.declared.names.Refused.TheVariants as refused
 use Rattle.vault_traits.specs.Counts.{Rose}

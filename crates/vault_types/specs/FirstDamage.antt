@@ -1,7 +1,7 @@
 -- When blobs open as a state, what opening reads, and what it finds damaged first. The order is
 -- that of the floors, the recipes, the tables and the rows: a place is damaged first where it is
 -- bad and all places before it are good.
-use Rattle.std.specs.Prelude.{◌≡◌, ◌⊎◌, ◌≤◌, ◌<◌, ◌+◌, ℕ, List, map, Contains, Option, Some, IsSome, MatchOption, slice_get}
+use Rattle.std.specs.Prelude.{◌≡◌, ◌⊎◌, ◌≤◌, ◌<◌, ◌+◌, ℕ, List, Contains, Option, Some, IsSome, MatchOption, slice_get}
 use Rattle.std.specs.FinMap as fin
 use Rattle.vault_types.specs.declared.Kind.{Kind}
 use Rattle.vault_types.specs.declared.Kind.TheVariants as kind

@@ -70,8 +70,8 @@ module _ (u v : View) where
 
   kind_of : (f : Fault) → IsMigrateFault u v f → IsTrue (fits_migrate (Refused f))
   kind_of (fault.StoreFault i) h = refl
-  kind_of (fault.Damaged kind.Recipe i y) h = refl
-  kind_of (fault.Damaged kind.Payload i y) h = refl
+  kind_of (fault.Damaged kind.Recipe i y) h = h
+  kind_of (fault.Damaged kind.Payload i y) h = h
   kind_of fault.Memory h = refl
   kind_of f h = absurd h
 

@@ -26,7 +26,7 @@ use Rattle.keeper_core.proofs.Replacings.{version_there}
 use Rattle.store_model.specs.Causes.{CausesRise, counts_of_shelf}
 use Rattle.store_model.specs.Courses.{fits_show}
 use Rattle.command_runner.specs.Showing.{IsUnread, IsReadersFault, ReadsRecipe}
-use Rattle.serial_delete.specs.Keeping.{IsStateOf}
+use Rattle.keeper_core.specs.Keeping.{IsStateOf}
 use Rattle.keeper_store.proofs.Opening.{same_but}
 use Rattle.commit_laws.proofs.Unique.{kept_number, kept_rules, with_whole, without_whole, plain_of}
 

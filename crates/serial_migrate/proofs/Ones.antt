@@ -38,8 +38,8 @@ use Rattle.store_model.specs.Complete.{is_counted}
 use Rattle.vault_types.specs.RecipeForms.{IsSecond}
 use Rattle.store_model.specs.Migrating.{IsFirst, HaveFirst, ShowsDamage}
 use Rattle.vault_types.specs.declared.Pending.TheVariants as pending
-use Rattle.serial_delete.specs.Keeping.{IsStateOf}
-use Rattle.serial_delete.proofs.Keeping.{changed_of, images_of}
+use Rattle.keeper_core.specs.Keeping.{IsStateOf}
+use Rattle.keeper_core.proofs.BetweenLines.{changed_of, images_of}
 use Rattle.serial_restore.specs.Restoring.{IsRestoreFault, HasStayed, IsRestored, IsCut, WhereTold}
 use Rattle.serial_restore.proofs.Damages.{undamaged, shown}
 use Rattle.serial_restore.proofs.Lines.{recipe_wrong, payload_bad}

@@ -14,7 +14,7 @@ use Rattle.vault_traits.specs.Crash.{LeavesNowIfTold}
 use Rattle.keeper_catalog.specs.View.{View}
 use Rattle.store_model.specs.Causes.{CausesRise, counts_of_shelf}
 use Rattle.store_model.specs.Migrating.{GetsOf, MigratesIn, BearsMigration, MigratesStore, HaveFirst, fits_migrate, kept_versions}
-use Rattle.serial_delete.specs.Keeping.{IsStateOf, IsKnownStray}
+use Rattle.keeper_core.specs.Keeping.{IsStateOf, IsKnownStray}
 use Rattle.serial_migrate.specs.Going.{IsLaterOf, IsMigrateFault, AllDone, HasEndedBy}
 
 module _ (u v : View) where

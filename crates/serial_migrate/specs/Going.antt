@@ -18,7 +18,7 @@ use Rattle.store_model.specs.Causes.{may_be_wrong}
 use Rattle.store_model.specs.Complete.{is_counted}
 use Rattle.vault_types.specs.RecipeForms.{IsSecond}
 use Rattle.store_model.specs.Migrating.{HaveFirst, ShowsDamage, kept_versions}
-use Rattle.serial_delete.specs.Keeping.{IsStateOf, IsKnownStray}
+use Rattle.keeper_core.specs.Keeping.{IsStateOf, IsKnownStray}
 
 -- the job and the pins stay, and the count of faults has not fallen
 pub record IsLaterOf (u v : View) : Type 0 where

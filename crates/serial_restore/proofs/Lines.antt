@@ -46,8 +46,8 @@ use Rattle.script_laws.proofs.Following.{near_with}
 use Rattle.script_laws.proofs.Forms.{still_forms}
 use Rattle.script_laws.proofs.LineLemmas.{unmoved, not_kept_means, not_kept_is}
 use Rattle.vault_types.specs.declared.Pending.TheVariants as pending
-use Rattle.serial_delete.specs.Keeping.{IsStateWith, IsKnownStray}
-use Rattle.serial_delete.proofs.Keeping.{changed_of, images_of}
+use Rattle.keeper_core.specs.Keeping.{IsStateWith, IsKnownStray}
+use Rattle.keeper_core.proofs.BetweenLines.{changed_of, images_of}
 use Rattle.serial_restore.specs.Going.{IsAtMostLeast, TakesFront}
 use Rattle.serial_restore.specs.Restoring.{IsRestoreFault, IsBadPayloadOf, IsWrongSumOf, IsLeft, HasGone}
 use Rattle.serial_restore.proofs.Damages.{undamaged, shown}

@@ -34,8 +34,8 @@ use Rattle.script_laws.proofs.Following.{near_with}
 use Rattle.script_laws.proofs.Forms.{grown_forms, still_forms}
 use Rattle.script_laws.proofs.LineLemmas.{unmoved, full_is, full_means, not_full_means}
 use Rattle.vault_types.specs.declared.Pending.TheVariants as pending
-use Rattle.serial_delete.specs.Keeping.{IsStateWith, IsKnownStray}
-use Rattle.serial_delete.proofs.Keeping.{changed_of, images_of}
+use Rattle.keeper_core.specs.Keeping.{IsStateWith, IsKnownStray}
+use Rattle.keeper_core.proofs.BetweenLines.{changed_of, images_of}
 use Rattle.backup_lines.proofs.Reading.{IsAll, is_all, whole_read, too_many}
 use Rattle.backup_jobs.specs.Backup.{BacksUp, IsBackupRefused, IsBackupFault, IsCauseOf, MayBeHalf, after_backup, full_fault}
 use Rattle.backup_lines.proofs.Refusals.{own_number, kind_err, cause_err, exact_other, many_means}

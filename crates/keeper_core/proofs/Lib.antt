@@ -7,3 +7,4 @@ pub mod Naming
 pub mod Replacings
 pub mod Refusing
 pub mod Following
+pub mod BetweenLines

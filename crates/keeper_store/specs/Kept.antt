@@ -13,7 +13,7 @@ use Rattle.state_laws.specs.Parts.{HeldIfTold}
 use Rattle.keeper_catalog.specs.View.{View, Keeps}
 use Rattle.store_model.specs.Strays.{IsStray, StraysOf}
 use Rattle.store_model.specs.View.{IsKept}
-use Rattle.serial_delete.specs.Keeping.{IsStateOf, IsKnownStray}
+use Rattle.keeper_core.specs.Keeping.{IsStateOf, IsKnownStray}
 
 near_told : (told : Option Blobs) (K : Core) → IsSome told → HeldIfTold told K
     → IsSomeAnd told (IsNear K.state K.other)

@@ -2,6 +2,7 @@
 #![tactic(auto)]
 
 mod ending;
+mod line;
 mod reading;
 
 ghost use Rattle.std.specs.Prelude.{◌≡◌, ◌≤◌, None, []};
@@ -10,6 +11,8 @@ ghost use Rattle.backup_pass.specs.Passing.{index_in};
 ghost use Rattle.backup_jobs.specs.Backup.{BacksUp};
 ghost use Rattle.backup_jobs.specs.Going.{Began, IsOver};
 ghost use Rattle.serial_backup.specs.Streaming.{IsGoing};
+
+pub use crate::line::backup_line;
 
 use crate::ending::end_pass;
 use crate::reading::read_all;

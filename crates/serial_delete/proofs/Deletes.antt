@@ -31,9 +31,9 @@ use Rattle.vault_traits.proofs.Moments.{ends}
 use Rattle.deletion_laws.proofs.Keeping.{delete_valid}
 use Rattle.script_laws.proofs.Staying.{below_set}
 use Rattle.script_laws.proofs.LineLemmas.{unmoved}
-use Rattle.serial_delete.specs.Keeping.{IsStateWith, IsKnownStray}
+use Rattle.keeper_core.specs.Keeping.{IsStateWith, IsKnownStray}
 use Rattle.script_laws.proofs.Forms.{shrunk_forms, still_forms}
-use Rattle.serial_delete.proofs.Keeping.{changed_of, images_of}
+use Rattle.keeper_core.proofs.BetweenLines.{changed_of, images_of}
 use Rattle.serial_delete.proofs.Crashes.{still_bears, half_bears, half_next, done_bears, near_alone}
 
 -- ---- numbers

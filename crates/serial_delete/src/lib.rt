@@ -6,7 +6,7 @@ ghost use Rattle.std.specs.Prelude.{◌≡◌, ℕ, List, None};
 ghost use Rattle.vault_types.specs.Events.{Pin};
 ghost use Rattle.pin_laws.specs.Following.{Follows};
 ghost use Rattle.store_model.specs.Calls.{DeletesLine};
-ghost use Rattle.serial_delete.specs.Keeping.{IsStateWith, IsKnownStray};
+ghost use Rattle.keeper_core.specs.Keeping.{IsStateWith, IsKnownStray};
 
 use keeper_core::Keeper;
 use vault_traits::Shelf;

@@ -38,10 +38,11 @@ use Rattle.store_model.specs.Complete.{is_counted}
 use Rattle.vault_types.specs.RecipeForms.{IsSecond}
 use Rattle.store_model.specs.Migrating.{IsInFirstFormat, HaveFirst, ShowsKeptDamage}
 use Rattle.vault_types.specs.declared.Pending.TheVariants as pending
-use Rattle.serial_delete.specs.Keeping.{IsStateOf}
-use Rattle.serial_delete.proofs.Keeping.{changed_of, images_of}
+use Rattle.keeper_core.specs.Keeping.{IsStateOf}
+use Rattle.keeper_core.proofs.BetweenLines.{changed_of, images_of}
 use Rattle.serial_restore.specs.Restoring.{IsRestoreFault, HasStayed, IsRestored, IsCut, WhereTold}
 use Rattle.serial_restore.proofs.Damages.{undamaged, shown}
+use Rattle.serial_restore.proofs.Lines.{recipe_wrong, payload_bad}
 use Rattle.serial_migrate.specs.Going.{IsLaterOf, IsMigrateFault, LeavesOne, LoadsLeast, Summed, PutAgain, Stopped, Went, Halted, without_write}
 use Rattle.serial_migrate.proofs.Alike.{kept_alike, one_state, told_back}
 use Rattle.serial_migrate.proofs.Counts.{first_or_second, least_same}
@@ -184,8 +185,8 @@ module _ (u w : View) (before now : SinkTold) (s n : ℕ) (result : Result Answe
   pub fault_here : (f : Fault) → result ≡ Err f → IsMigrateFault u w (without_write f)
   fault_here (fault.StoreFault i) is = cause_is (fault.StoreFault i) is r.core.0 r.core.1
   fault_here (fault.WriteFault i) is = tt
-  fault_here (fault.Damaged kind.Recipe i y) is = tt
-  fault_here (fault.Damaged kind.Payload i y) is = tt
+  fault_here (fault.Damaged kind.Recipe i y) is = recipe_wrong u.told.blobs r.core.0.state s n i y (cause_is (fault.Damaged kind.Recipe i y) is r.core.0 r.core.1)
+  fault_here (fault.Damaged kind.Payload i y) is = payload_bad u.told.blobs r.core.0.state s n i y (cause_is (fault.Damaged kind.Payload i y) is r.core.0 r.core.1)
   fault_here (fault.Damaged kind.Table i y) is = absurd (⊎_elim (λ pin. pin) (λ e. ⊎_elim (λ bad. bad.2) (λ wrong. wrong) e) (cause_is (fault.Damaged kind.Table i y) is r.core.0 r.core.1))
   fault_here (fault.Damaged kind.Floor i y) is = absurd (⊎_elim (λ pin. pin) (λ e. ⊎_elim (λ bad. bad.2) (λ wrong. wrong) e) (cause_is (fault.Damaged kind.Floor i y) is r.core.0 r.core.1))
   fault_here fault.Memory is = tt
@@ -226,7 +227,9 @@ module _ (u w : View) (s n : ℕ) (range : s < 256) (kept : (K : Core) → Keeps
 
   pub read_fault : (f : Fault) → IsCause u.told.faults w.told.faults (IsRecipeDamage u.told.blobs s n) f → IsMigrateFault u w f
   read_fault (fault.StoreFault i) h = (subst (Rose u.told.faults) (sym h.0) h.1, omega (arith, h.0))
-  read_fault (fault.Damaged kind.Recipe i y) h = tt
+  read_fault (fault.Damaged kind.Recipe i why.Absent) h = refl
+  read_fault (fault.Damaged kind.Recipe i why.Spelling) h = refl
+  read_fault (fault.Damaged kind.Recipe i y) h = absurd h.1
   read_fault (fault.Damaged kind.Table i y) h = absurd h
   read_fault (fault.Damaged kind.Payload i y) h = absurd h
   read_fault (fault.Damaged kind.Floor i y) h = absurd h
@@ -308,8 +311,8 @@ later_of u v w one two = record { later = (let a = one.later in let b = two.late
 
 pub fault_of : (u v w : View) (f : Fault) → u.told.faults ≤ v.told.faults → IsMigrateFault v w f → IsMigrateFault u w f
 fault_of u v w (fault.StoreFault i) low h = (let rose = h.0 in omega (arith, rose, low), h.1)
-fault_of u v w (fault.Damaged kind.Recipe i y) low h = tt
-fault_of u v w (fault.Damaged kind.Payload i y) low h = tt
+fault_of u v w (fault.Damaged kind.Recipe i y) low h = h
+fault_of u v w (fault.Damaged kind.Payload i y) low h = h
 fault_of u v w fault.Memory low h = tt
 fault_of u v w f low h = absurd h
 

@@ -18,7 +18,7 @@ use Rattle.keeper_core.proofs.Replacings.{version_there}
 use Rattle.script_laws.proofs.Rising.{counted_up_twice}
 use Rattle.vault_types.specs.RecipeForms.{IsSecond}
 use Rattle.store_model.specs.Migrating.{HaveFirst, kept_versions, versions_from, versions_below}
-use Rattle.serial_delete.specs.Keeping.{IsStateOf}
+use Rattle.keeper_core.specs.Keeping.{IsStateOf}
 use Rattle.vault_types.specs.FirstDamage.{IsBefore}
 use Rattle.serial_migrate.specs.Going.{LeavesOne, Went, Halted, Gone, AllDone, HasEndedBy}
 use Rattle.serial_migrate.proofs.Counts.{have_append, have_split, have_same, have_head, have_moved, from_goes_on}

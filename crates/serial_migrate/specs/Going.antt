@@ -14,10 +14,11 @@ use Rattle.vault_types.specs.Script.{row_ids}
 use Rattle.vault_traits.specs.Counts.{counted_up, Rose}
 use Rattle.vault_traits.specs.Crash.{LeavesNowIfTold, LeavesOnlyIfTold}
 use Rattle.keeper_catalog.specs.View.{View}
+use Rattle.store_model.specs.Causes.{may_be_wrong}
 use Rattle.store_model.specs.Complete.{is_counted}
 use Rattle.vault_types.specs.RecipeForms.{IsSecond}
 use Rattle.store_model.specs.Migrating.{HaveFirst, ShowsKeptDamage, kept_versions}
-use Rattle.serial_delete.specs.Keeping.{IsStateOf, IsKnownStray}
+use Rattle.keeper_core.specs.Keeping.{IsStateOf, IsKnownStray}
 use Rattle.vault_types.specs.FirstDamage.{IsBefore}
 
 -- the job and the pins stay, and the count of faults has not fallen
@@ -29,8 +30,8 @@ pub record IsLaterOf (u v : View) : Type 0 where
 -- why a migration stops: the shelf failed in it, a recipe or a payload is damaged, or there was no memory
 abbrev pub IsMigrateFault : View → View → Fault → Type 0
 IsMigrateFault u v (fault.StoreFault n) = Rose u.told.faults n × (n ≤ v.told.faults)
-IsMigrateFault u v (fault.Damaged kind.Recipe number why) = Unit {0}
-IsMigrateFault u v (fault.Damaged kind.Payload number why) = Unit {0}
+IsMigrateFault u v (fault.Damaged kind.Recipe number why) = IsTrue (may_be_wrong kind.Recipe why)
+IsMigrateFault u v (fault.Damaged kind.Payload number why) = IsTrue (may_be_wrong kind.Payload why)
 IsMigrateFault u v fault.Memory = Unit {0}
 IsMigrateFault u v other = ⊥
 

@@ -3,7 +3,7 @@ ghost use Rattle.std.specs.Prelude.{◌≡◌, None, Option, IfErr, IfOk};
 ghost use Rattle.vault_types.specs.State.{State};
 ghost use Rattle.vault_types.specs.Events.{Change};
 ghost use Rattle.store_model.specs.Migrating.{MigratesStore};
-ghost use Rattle.serial_delete.specs.Keeping.{IsStateOf, IsKnownStray};
+ghost use Rattle.keeper_core.specs.Keeping.{IsStateOf, IsKnownStray};
 ghost use Rattle.serial_migrate.specs.Going.{IsLaterOf, IsMigrateFault, AllDone, HasEndedBy};
 
 use crate::one::migrate_one;

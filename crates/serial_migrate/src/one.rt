@@ -4,7 +4,7 @@ ghost use Rattle.vault_types.specs.Names.{IsFp};
 ghost use Rattle.vault_types.specs.State.{State, KeptVersion, is_kept, version_of};
 ghost use Rattle.vault_types.specs.Events.{Core, Change};
 ghost use Rattle.keeper_catalog.specs.View.{Keeps};
-ghost use Rattle.serial_delete.specs.Keeping.{IsStateOf};
+ghost use Rattle.keeper_core.specs.Keeping.{IsStateOf};
 ghost use Rattle.serial_migrate.specs.Going.{IsLaterOf, IsMigrateFault, Summed, Stopped, PutAgain, Went, Halted, without_write};
 
 use crate::sum_sink::SumSink;

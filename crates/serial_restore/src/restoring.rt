@@ -7,7 +7,7 @@ ghost use Rattle.vault_types.specs.State.{KeptVersion, floor_of, latest_of, is_k
 ghost use Rattle.vault_traits.specs.Crash.{LeavesNowIfTold, LeavesOnlyIfTold};
 ghost use Rattle.keeper_catalog.specs.View.{Keeps};
 ghost use Rattle.store_model.specs.Calls.{RestoresLine};
-ghost use Rattle.serial_delete.specs.Keeping.{IsStateWith, IsKnownStray};
+ghost use Rattle.keeper_core.specs.Keeping.{IsStateWith, IsKnownStray};
 ghost use Rattle.serial_restore.specs.Restoring.{whole_of as whole_is, IsRestoreFault, HasStayed, IsRestored, IsCut, WhereTold, HasGone};
 
 use crate::copying::copy_pinned;

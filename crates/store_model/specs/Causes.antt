@@ -37,6 +37,12 @@ may_be_wrong kind.Payload (why.Length want found) = not (want == found)
 may_be_wrong kind.Payload (why.Sum want found) = not (same_fp want found)
 may_be_wrong kind other = false
 
+-- whether a recipe that is only read may be refused for this
+abbrev pub may_be_unreadable : Why → Bool
+may_be_unreadable why.Absent = true
+may_be_unreadable why.Spelling = true
+may_be_unreadable other = false
+
 -- whether another fault may refuse the line in some state: only the state says which payloads a restore names
 abbrev pub may_ever_refuse : Limits → Line → Fault → Bool
 may_ever_refuse limits (Restore s v name cache) (fault.Damaged kind.Payload number why) =

@@ -14,7 +14,7 @@ use Rattle.vault_types.specs.Script.{is_refused}
 use Rattle.vault_types.specs.Texts.{recipe_text}
 use Rattle.vault_traits.specs.Told.{ShelfTold, SinkTold, Gives, Takes}
 use Rattle.store_model.specs.Calls.{GivesAtMost, HasWritten, AreTooManyBytes}
-use Rattle.store_model.specs.Causes.{Counts, CausesRise, fits, counts_of_source, counts_of_sink, counts_of_shelf}
+use Rattle.store_model.specs.Causes.{Counts, CausesRise, fits, may_be_unreadable, counts_of_source, counts_of_sink, counts_of_shelf}
 use Rattle.store_model.specs.Complete.{IsWell, IsComplete}
 use Rattle.store_model.specs.Leaves.{Begins}
 use Rattle.store_model.specs.Script.{MeansScript, RunsLines}
@@ -95,7 +95,7 @@ pub record RunsDelete (set through : ℕ) (limits : Limits) (before now : World)
 abbrev pub fits_show : ℕ → ℕ → Answer → Bool
 fits_show s v (Shown t w rows) = (s == t) && (v == w)
 fits_show s v (Refused (fault.NotKept t w floor latest)) = (s == t) && (v == w)
-fits_show s v (Refused (fault.Damaged kind.Recipe number why)) = number == s * 2 ^ 32 + v
+fits_show s v (Refused (fault.Damaged kind.Recipe number why)) = (number == s * 2 ^ 32 + v) && may_be_unreadable why
 fits_show s v (Refused (fault.StoreFault n)) = true
 fits_show s v (Refused (fault.WriteFault n)) = true
 fits_show s v (Refused fault.Memory) = true

@@ -21,7 +21,7 @@ use Rattle.vault_traits.specs.Crash.{History, LeavesNowIfTold, LeavesOnlyIfTold}
 use Rattle.vault_traits.specs.Told.{ShelfTold}
 use Rattle.vault_types.specs.RecipeForms.{IsSecond}
 use Rattle.store_model.specs.Calls.{Keeping}
-use Rattle.store_model.specs.Causes.{CausesRise, counts_of_shelf}
+use Rattle.store_model.specs.Causes.{CausesRise, may_be_wrong, counts_of_shelf}
 use Rattle.store_model.specs.Complete.{is_counted}
 use Rattle.store_model.specs.Leaves.{Begins}
 use Rattle.store_model.specs.Steps.{answer_of}
@@ -75,8 +75,8 @@ GetsOf told S answer n = (recipes least : ℕ) → HaveFirst told S (kept_versio
 abbrev pub fits_migrate : Answer → Bool
 fits_migrate (Migrated recipes) = true
 fits_migrate (Refused (fault.StoreFault n)) = true
-fits_migrate (Refused (fault.Damaged kind.Recipe number why)) = true
-fits_migrate (Refused (fault.Damaged kind.Payload number why)) = true
+fits_migrate (Refused (fault.Damaged kind.Recipe number why)) = may_be_wrong kind.Recipe why
+fits_migrate (Refused (fault.Damaged kind.Payload number why)) = may_be_wrong kind.Payload why
 fits_migrate (Refused fault.Memory) = true
 fits_migrate other = false
 

@@ -1,6 +1,6 @@
 use Rattle.backup_lines.proofs.Following.{backup_follows}
 use Rattle.backup_lines.proofs.Lines.{backs_up_line}
-use Rattle.backup_lines.proofs.backup_line.Goals as goal
+use Rattle.serial_backup.proofs.line.backup_line.Goals as goal
 
 pub returns-clause-line : goal.returns-clause-line
 returns-clause-line g c = backs_up_line _ _ _ _ _ _ _ _ c.keeps_some_core.ensures c.requires.config.cutting c.backup_plain.ensures

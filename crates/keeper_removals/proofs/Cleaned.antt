@@ -1,6 +1,6 @@
 -- What the shelf holds, and what a crash leaves, behind a deletion and the removal of what goes with it.
 use Rattle.std.proofs.Common.{◌≡◌, ◌⊎◌, inl, inr, ℕ, ◌<◌, ◌≤◌, ◌+◌, map, length, Bool, false, cond, not, List, [], ◌∷◌, drop, Option, Some, None, max, refl, sym, ◌∙◌, ap, subst, arith}
-use Rattle.std.specs.Prelude.{Contains, IsSome, OnErr, Result, Ok, Err, slice_index_or, filter}
+use Rattle.std.specs.Prelude.{Contains, IsSome, OnErr, IsErrAnd, Result, Ok, Err, slice_index_or, filter}
 use Rattle.vault_types.specs.declared.Fp.{Fp}
 use Rattle.vault_types.specs.declared.Name.{Name}
 use Rattle.vault_types.specs.declared.Pending.TheVariants.{Not}
@@ -29,6 +29,11 @@ use Rattle.deletion_laws.proofs.Keeping.{delete_same}
 use Rattle.deletion_laws.proofs.Going.{told_deleted, told_cleans, told_deleted_same, told_cleans_same}
 use Rattle.keeper_removals.specs.Removals.{Removing, Rises}
 use Rattle.keeper_removals.proofs.Deleted.{some_info}
+
+-- what holds of a refusal holds of it as it is handed on
+pub again : {T E : Type 0} (P : Result T E → Type 0) (f : E) → P (Err f) → (r : Result T E) → IsErrAnd r (λ e. e ≡ f) → P r
+again P f h (Ok x) is = absurd is
+again {E = E} P f h (Err e) is = subst (λ (d : E). P (Err d)) (sym is) h
 
 pub always : {T E : Type 0} (r : Result T E) (P : Type 0) → P → OnErr r P
 always (Ok x) P p = tt
@@ -107,3 +112,7 @@ module _ (before after : Option Blobs) (s floor : ℕ) where
 
   pub floor_tells : after ≡ blobs_with before (floor_name s) (Some (floor_bytes s floor)) → IsSome before → IsSome after
   floor_tells is tells = subst (λ (o : Option Blobs). IsSome o) (sym is) (tells_with before (floor_name s) (Some (floor_bytes s floor)) tells)
+
+  pub floor_goes_on : (after ≡ before) ⊎ (after ≡ blobs_with before (floor_name s) (Some (floor_bytes s floor))) → IsSome before → IsSome after
+  floor_goes_on (inl same) tells = subst (λ (o : Option Blobs). IsSome o) (sym same) tells
+  floor_goes_on (inr is) tells = floor_tells is tells

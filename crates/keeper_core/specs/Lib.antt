@@ -1,3 +1,5 @@
 pub mod Stands
 pub mod Calls
+pub mod Mends
+pub mod Deletes
 pub mod Replacing

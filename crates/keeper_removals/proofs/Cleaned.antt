@@ -1,6 +1,6 @@
 -- What the shelf holds, and what a crash leaves, behind a deletion and the removal of what goes with it.
 use Rattle.std.proofs.Common.{◌≡◌, ◌⊎◌, inl, inr, ℕ, ◌<◌, ◌≤◌, ◌+◌, map, length, Bool, false, cond, not, List, [], ◌∷◌, drop, Option, Some, None, max, refl, sym, ◌∙◌, ap, subst, arith}
-use Rattle.std.specs.Prelude.{Contains, IsSome, OnErr, IsErrAnd, Result, Ok, Err, slice_index_or, filter}
+use Rattle.std.specs.Prelude.{Contains, IsSome, IsErrAnd, Result, Ok, Err, slice_index_or, filter}
 use Rattle.vault_types.specs.declared.Fp.{Fp}
 use Rattle.vault_types.specs.declared.Name.{Name}
 use Rattle.vault_types.specs.declared.Pending.TheVariants.{Not}
@@ -34,10 +34,6 @@ use Rattle.keeper_removals.proofs.Deleted.{some_info}
 pub again : {T E : Type 0} (P : Result T E → Type 0) (f : E) → P (Err f) → (r : Result T E) → IsErrAnd r (λ e. e ≡ f) → P r
 again P f h (Ok x) is = absurd is
 again {E = E} P f h (Err e) is = subst (λ (d : E). P (Err d)) (sym is) h
-
-pub always : {T E : Type 0} (r : Result T E) (P : Type 0) → P → OnErr r P
-always (Ok x) P p = tt
-always (Err e) P p = p
 
 none_pass : (p : ℕ → Bool) (xs : List ℕ) → ((x : ℕ) → Contains xs x → p x ≡ false) → filter p xs ≡ []
 none_pass p [] none = refl

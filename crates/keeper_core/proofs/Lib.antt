@@ -1,5 +1,7 @@
 pub mod Keeping
 pub mod Removing
+pub mod Mendings
+pub mod Deletions
 pub mod Openings
 pub mod Listing
 pub mod Pinnings

@@ -1,4 +1,6 @@
 pub mod Stands
 pub mod Calls
+pub mod Mends
+pub mod Deletes
 pub mod Replacing
 pub mod Keeping

@@ -10,6 +10,7 @@ ghost use Rattle.commit_laws.specs.Laws.{AreStraysLeft};
 ghost use Rattle.keeper_catalog.specs.View.{Keeps, HasCore};
 ghost use Rattle.keeper_jobs.specs.Jobs.{names_of, version_by};
 ghost use Rattle.keeper_core.specs.Stands.{index_of, job_of};
+ghost use Rattle.keeper_core.specs.Mends.{MendsFirst};
 ghost use Rattle.keeper_core.specs.Calls.{IsBegun, IsHalf, IsShelfFault, IsDue, due_after};
 
 use crate::keeper::{Begun, Keeper, Stand, next_of_sets};
@@ -38,8 +39,15 @@ impl<S: Shelf> Keeper<S> {
         ensures gets { self.new.told.gets ≡ self.old.told.gets }
         ensures causes { HasStoreFault self.old.told.faults self.new.told.faults result }
     {
-        mend_for(&mut self.shelf, &self.catalog.sets, &mut self.pending, 0)?;
-        Ok(())
+        self.mend_first(0)
+    }
+
+    // Mends before a change of the set, where that is due: after opening that set. `StoreFault`, after which it is still
+    // due. Takes no memory.
+    pub(crate) fn mend_first(&mut self, set: Set) -> Result<(), Fault>
+        ensures { MendsFirst self.old self.new result }
+    {
+        mend_for(&mut self.shelf, &self.catalog.sets, &mut self.pending, set)
     }
 
     /// Begins a job of a set, and lends it the index. `Memory`, and then `StoreFault` of a mending that was due. After an

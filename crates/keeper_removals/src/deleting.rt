@@ -18,6 +18,7 @@ ghost use Rattle.state_laws.specs.Parts.{HeldIfTold};
 ghost use Rattle.vault_types.specs.RecipeForms.{KeepsRecipes};
 ghost use Rattle.keeper_catalog.specs.Catalog.{memo_of, set_info, IsMemoOf, HasRoom};
 ghost use Rattle.deletion_laws.specs.Deleting.{IsDeleting, IsGone, AreStraysAfter, without_ids};
+ghost use Rattle.keeper_removals.specs.Deletes.{DeletesVersions};
 ghost use Rattle.keeper_removals.specs.Removals.{Removing, Rises, Leaves, LeavesRecipes, IsTableIn, IsKnown};
 
 use crate::leaving::let_go;
@@ -178,62 +179,8 @@ pub fn delete_versions<S: Shelf>(
 ) -> Result<u64, Fault>
     requires can { (K : Core) × Removing (memo_of catalog.old) index.old pins.now K set through }
     requires room { HasRoom (memo_of catalog.old) }
-    ensures removed { IfOk result (λ n. (K : Core)
-        → Removing (memo_of catalog.old) index.old pins.now K set through
-        → n ≡ length (reclaimed_ids K.state (delete K.state set through))) }
-    ensures memo { OnOk result ((K : Core) → Removing (memo_of catalog.old) index.old pins.now K set through
-        → IsMemoOf (memo_of catalog.new) (after_delete set through catalog.new.strays.items K)) }
-    ensures index { OnOk result ((K : Core) → Removing (memo_of catalog.old) index.old pins.now K set through
-        → IsIndexOf index.new (map (λ c. c.table) (delete K.state set through).containers)) }
-    ensures held { OnOk result ((K : Core) → Removing (memo_of catalog.old) index.old pins.now K set through
-        → HeldIfTold (S.told shelf.old).blobs K
-        → HeldIfTold (S.told shelf.new).blobs (after_delete set through catalog.new.strays.items K)) }
-
-    // A refusal leaves the memory, and the floor may be written.
-    ensures as_before { OnErr result ((memo_of catalog.new ≡ memo_of catalog.old) × (index.new ≡ index.old)) }
-    ensures half { OnErr result ((K : Core) → Removing (memo_of catalog.old) index.old pins.now K set through
-        → HeldIfTold (S.told shelf.old).blobs K
-        → HeldIfTold (S.told shelf.new).blobs
-        (after_refused (Some (delete_change set through K.state)) None K.strays (pending.FailedFor set)
-        K)) }
-
-    // Each recipe that is kept behind it is as it was; a refusal leaves all.
-    ensures recipes { OnOk result (IsSome (S.told shelf.old).blobs → (K : Core)
-        → Removing (memo_of catalog.old) index.old pins.now K set through
-        → HeldIfTold (S.told shelf.old).blobs K
-        → KeepsRecipes (delete K.state set through) (S.told shelf.old).blobs (S.told shelf.new).blobs) }
-    ensures all_recipes { OnErr result ((s v : ℕ)
-        → blob_at (S.told shelf.new).blobs (recipe_name s v)
-        ≡ blob_at (S.told shelf.old).blobs (recipe_name s v)) }
-
-    // A crash at any moment leaves the state from before or the one after: at `Ok` only the one after, and in a refused
-    // deletion only the one from before or the floor that was tried.
-    ensures refused_moment { OnErr result ((K : Core)
-        → Removing (memo_of catalog.old) index.old pins.now K set through
-        → LeavesNowIfTold (S.told shelf.old).history (IsNear K.state None)
-        → LeavesOnlyIfTold (S.told shelf.old).history (S.told shelf.new).history
-        (IsNear K.state (Some (delete_change set through K.state)))) }
-    ensures any_moment { (K : Core) → Removing (memo_of catalog.old) index.old pins.now K set through
-        → HeldIfTold (S.told shelf.old).blobs K
-        → LeavesNowIfTold (S.told shelf.old).history (IsNear K.state None)
-        → LeavesOnlyIfTold (S.told shelf.old).history (S.told shelf.new).history
-        (IsDeleting K.state set through) }
-    ensures acknowledged { OnOk result ((K : Core)
-        → Removing (memo_of catalog.old) index.old pins.now K set through
-        → HeldIfTold (S.told shelf.old).blobs K
-        → LeavesNowIfTold (S.told shelf.old).history (IsNear K.state None)
-        → LeavesNowIfTold (S.told shelf.new).history (IsNear (delete K.state set through) None)) }
-
-    // Each stray was one before or is a name that goes, and at most one is left for each failure.
-    ensures within { OnOk result ((K : Core) → Removing (memo_of catalog.old) index.old pins.now K set through
-        → (n : Named) → Contains catalog.new.strays.items n
-        → Contains catalog.old.strays.items n ⊎ IsGone K set through n) }
-    ensures few { OnOk result ((S.told shelf.new).faults < 2 ^ 64 - 1
-        → length catalog.new.strays.items + (S.told shelf.old).faults ≤ (S.told shelf.new).faults) }
-    ensures room { HasRoom (memo_of catalog.new) }
-    ensures tells { IsSome (S.told shelf.old).blobs → IsSome (S.told shelf.new).blobs }
-    ensures gets { (S.told shelf.new).gets ≡ (S.told shelf.old).gets }
-    ensures causes { HasStoreFault (S.told shelf.old).faults (S.told shelf.new).faults result }
+    ensures { DeletesVersions set through pins.now (memo_of catalog.old) (memo_of catalog.new) index.old index.new
+        (S.told shelf.old) (S.told shelf.new) result }
 {
     let floor = through + 1;
     if floor <= catalog.sets[set as usize].floor {

@@ -18,7 +18,7 @@ use Rattle.vault_types.specs.State.{State}
 use Rattle.vault_traits.specs.Counts.{Rose, RiseFrom}
 use Rattle.vault_traits.specs.Told.{Files, SinkTold, SourceTold}
 use Rattle.vault_types.specs.FirstDamage.{IsDamageOf}
-use Rattle.keeper_open.proofs.Lawful.{undamaged}
+use Rattle.damage_laws.proofs.Undamaged.{undamaged}
 use Rattle.store_model.specs.Leaves.{Begins}
 use Rattle.store_model.specs.World.{World, IsPrinted, report_text}
 use Rattle.store_model.specs.Filling.{outputs_text}

@@ -13,29 +13,13 @@ use Rattle.vault_types.specs.declared.Recipe.{Recipe}
 use Rattle.vault_types.specs.Blobs.{SpellsFloor, IsVersion}
 use Rattle.vault_types.specs.Shelf.{Blobs, recipe_name, floor_name}
 use Rattle.vault_types.specs.BlobDamage.{IsFloorIn, IsRecipeWhy}
-use Rattle.recipe_store.proofs.Apart.{recipes_apart, floors_apart}
 use Rattle.keeper_catalog.specs.declared.SetInfo.{SetInfo}
 use Rattle.keeper_open.specs.declared.notes.Notes.{Notes}
 use Rattle.vault_types.specs.FirstDamage.{ReadsRecipe, IsListedFrom, IsDueFrom, IsDue, IsAfter, IsGoodRecipe, IsBefore, FloorsBefore, RecipesBefore, IsLower, IsRecipeFirst, IsFirstDamage, IsDamageOf}
 use Rattle.keeper_open.specs.Reading.{SetRead, AreFloors, AreRead, IsLastDue, IsSetRead, IsVersionWhy, IsVersionDamage, IsSetDamage, IsSetFirst, AreSets, last_next}
-use Rattle.keeper_open.proofs.Gathering.{AreFirstSets, floors_before, some_at, at_below, recipe_read, rising_at, last_at, set_at}
-
--- what is read is one
-
-floors_same : (s f g : ℕ) (o p : Option (List ℕ)) → o ≡ p → MatchOption o (f ≡ 1) (λ bytes. SpellsFloor s bytes f) → MatchOption p (g ≡ 1) (λ bytes. SpellsFloor s bytes g) → f ≡ g
-floors_same s f g None None e one two = one ∙ sym two
-floors_same s f g None (Some b) e one two = absurd cc
-floors_same s f g (Some a) None e one two = absurd cc
-floors_same s f g (Some a) (Some b) e one two = let same : a ≡ b = cc in (floors_apart s f g a b [] one two (append-nil a ∙ same)).0
-
-pub floor_unique : (m : Blobs) (s f g : ℕ) → IsFloorIn (Some m) s f → IsFloorIn (Some m) s g → f ≡ g
-floor_unique m s f g one two = floors_same s f g one.0 two.0 (sym one.1 ∙ two.1) one.2 two.2
-
-pub recipe_unique : (m : Blobs) (s v : ℕ) (r q : Recipe) → ReadsRecipe (Some m) s v r → ReadsRecipe (Some m) s v q → r ≡ q
-recipe_unique m s v r q one two =
-    let found : ◌≡◌ {A = Option (List ℕ)} (Some one.0) (Some two.0) = sym one.1 ∙ two.1 in
-    let same : one.0 ≡ two.0 = cc in
-    (recipes_apart s v r q one.0 two.0 [] one.2 two.2 (append-nil one.0 ∙ same)).0
+use Rattle.keeper_open.proofs.Gathering.{AreFirstSets, floors_before, recipe_read, rising_at, last_at, set_at}
+use Rattle.damage_laws.proofs.Elements.{some_at, at_below}
+use Rattle.damage_laws.proofs.Unique.{floor_unique, recipe_unique}
 
 -- a floor is a version
 pub floor_version : (told : Option Blobs) (s f : ℕ) → IsFloorIn told s f → IsVersion f

@@ -34,6 +34,7 @@ use Rattle.keeper_open.specs.declared.notes.RowPlace.{RowPlace}
 use Rattle.keeper_open.specs.declared.notes.Notes.{Notes}
 use Rattle.vault_types.specs.FirstDamage.{ReadsRecipe, ReadsTable, IsDueFrom, FloorsBefore, IsOpeningWhy, IsDamageOf}
 use Rattle.keeper_open.specs.Reading.{SetRead, AreFloors, AreRecipes, AreRead, IsLastDue, IsSetRead, IsVersionDamage, IsVersionWhy, IsSetDamage, IsSetFirst, AreSets, AreTables, last_next, last_sparse, number_of, AreBelow, NotesMore, AreNoted, all_recipes, same_chunk, has_chunk, some_has, left_of, IsFirstTable}
+use Rattle.damage_laws.proofs.Elements.{some_at, at_below, in_place, all_in}
 use Rattle.keeper_open.proofs.Noting.{cons_cases, first_in, later_in, none_in}
 
 -- causes
@@ -119,21 +120,6 @@ floor_damage (Some m) now fs s same all count low kind.Payload n w damage = absu
 floor_damage (Some m) now fs s same all count low kind.Recipe n w damage = absurd damage
 
 -- places in lists
-
-pub some_at : {X : Type 0} (xs : List X) (i : ℕ) → i < length xs → (x : X) × (slice_get xs i ≡ Some x)
-some_at [] i below = absurd (omega arith)
-some_at (x ∷ xs) zero below = (x, refl)
-some_at (x ∷ xs) (suc i) below = some_at xs i (omega arith)
-
-pub at_below : {X : Type 0} (xs : List X) (i : ℕ) (x : X) → slice_get xs i ≡ Some x → i < length xs
-at_below {X} [] i x is = absurd (let clash : ◌≡◌ {A = Option X} None (Some x) = is in cc)
-at_below (y ∷ xs) zero x is = omega arith
-at_below (y ∷ xs) (suc i) x is = omega (arith, at_below xs i x is)
-
-pub in_place : {X : Type 0} (xs : List X) (i : ℕ) (x : X) → slice_get xs i ≡ Some x → Contains xs x
-in_place {X} [] i x is = absurd (let clash : ◌≡◌ {A = Option X} None (Some x) = is in cc)
-in_place (y ∷ xs) zero x is = let same : y ≡ x = cc in subst (λ z. Contains (y ∷ xs) z) same (first_in y xs)
-in_place (y ∷ xs) (suc i) x is = later_in y x xs (in_place xs i x is)
 
 pub place_of : {X : Type 0} (xs : List X) (x : X) → Contains xs x → (i : ℕ) × (slice_get xs i ≡ Some x)
 place_of [] x there = absurd (none_in x there)
@@ -285,10 +271,6 @@ set_more_read told infos news number old mid new ds info rs was is notes pushed 
 pub all_push : {X : Type 0} (P : X → Type 0) (xs : List X) (x : X) → AllByRecursion P xs → P x → AllByRecursion P (xs ++ x ∷ [])
 all_push P [] x all is = (is, tt)
 all_push P (y ∷ xs) x all is = (all.0, all_push P xs x all.1 is)
-
-pub all_in : {X : Type 0} (P : X → Type 0) (xs : List X) (x : X) → AllByRecursion P xs → Contains xs x → P x
-all_in P [] x all there = absurd (none_in x there)
-all_in P (y ∷ xs) x all there = ⊎_elim (λ (here : y ≡ x). subst P here all.0) (λ later. all_in P xs x all.1 later) (cons_cases y x xs there)
 
 pub mapped_in : {X Y : Type 0} (f : X → Y) (xs : List X) (y : Y) → Contains (map f xs) y → (x : X) × Contains xs x × (f x ≡ y)
 mapped_in f [] y there = absurd (none_in y there)

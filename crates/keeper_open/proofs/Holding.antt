@@ -24,7 +24,8 @@ use Rattle.keeper_catalog.specs.Catalog.{table_at}
 use Rattle.keeper_catalog.specs.View.{opened_core}
 use Rattle.keeper_open.specs.Reading.{SetRead, IsSetRead, AreSets, keeps, needs_number, needs}
 use Rattle.keeper_open.proofs.Noting.{cons_cases, first_in, later_in, none_in}
-use Rattle.keeper_open.proofs.Gathering.{some_at, at_below, set_at, mapped_in}
+use Rattle.keeper_open.proofs.Gathering.{set_at, mapped_in}
+use Rattle.damage_laws.proofs.Elements.{some_at, at_below}
 use Rattle.keeper_open.proofs.Searching.{some_passes, is_equal, present}
 use Rattle.keeper_open.proofs.Stated.{container_of, containers_in, state_of, dataset_of, length_map, get_map, map_at, find_is, found_in, version_is, version_back}
 

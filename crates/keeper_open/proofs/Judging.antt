@@ -20,8 +20,10 @@ use Rattle.keeper_open.specs.declared.notes.RowPlace.{RowPlace}
 use Rattle.vault_types.specs.FirstDamage.{ReadsRecipe, ReadsTable, IsDue, IsRowAt, IsNamed, IsInTable, IsBefore, FloorsBefore, RecipesBefore, TablesBefore, RowsBefore, AreRecipesGood, AreTablesGood, IsFirstDamage, IsOpeningWhy, IsDamageOf}
 use Rattle.keeper_open.specs.Reading.{SetRead, AreFloors, IsSetRead, AreSets, AreTables, all_recipes, rows_of, chunk_of, same_chunk, number_of, placed, AreFirst, IsNotAfter, some_has, left_of, IsFirstTable}
 use Rattle.keeper_open.proofs.Noting.{none_in, not_after_trans}
-use Rattle.keeper_open.proofs.Gathering.{at_below, in_place, place_of, recipe_read, set_at, all_in, mapped_in, floors_before}
-use Rattle.keeper_open.proofs.Damaging.{recipe_unique, due_recipe, due_in, sets_good}
+use Rattle.keeper_open.proofs.Gathering.{place_of, recipe_read, set_at, mapped_in, floors_before}
+use Rattle.damage_laws.proofs.Elements.{at_below, in_place, all_in}
+use Rattle.damage_laws.proofs.Unique.{recipe_unique}
+use Rattle.keeper_open.proofs.Damaging.{due_recipe, due_in, sets_good}
 use Rattle.keeper_open.proofs.Stated.{located, recipe_among, placed_recipe_row, recipe_placed, row_of_recipe, row_in_all, has_is, is_has, set_in, in_set, map_at}
 
 -- the table of a container is one

@@ -33,7 +33,8 @@ use Rattle.keeper_open.specs.declared.notes.RowPlace.{RowPlace}
 use Rattle.vault_types.specs.FirstDamage.{ReadsRecipe, ReadsTable}
 use Rattle.keeper_open.specs.Reading.{SetRead, AreRecipes, AreRead, IsSetRead, AreSets, AreTables, all_recipes, rows_of, chunk_of, same_chunk, placed_rows, number_of, placed, AreFirst, has_chunk, some_has, left_of, last_next, last_sparse}
 use Rattle.keeper_open.proofs.Noting.{cons_cases, first_in, later_in, none_in, same_chunks, chunk_self}
-use Rattle.keeper_open.proofs.Gathering.{some_at, at_below, in_place, place_of, recipe_read, set_at, all_in, mapped_in}
+use Rattle.keeper_open.proofs.Gathering.{place_of, recipe_read, set_at, mapped_in}
+use Rattle.damage_laws.proofs.Elements.{some_at, at_below, in_place, all_in}
 use Rattle.keeper_open.proofs.Damaging.{floor_version}
 use Rattle.keeper_open.proofs.SumBytes.{fp-is_fp}
 

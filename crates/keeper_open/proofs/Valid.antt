@@ -29,7 +29,8 @@ use Rattle.keeper_catalog.specs.Catalog.{set_info, table_at, Names, AreMarks}
 use Rattle.vault_types.specs.FirstDamage.{Opens, ReadsRecipe, ReadsTable}
 use Rattle.keeper_open.specs.Reading.{SetRead, AreRecipes, IsSetRead, AreSets, AreTables, all_recipes, rows_of, marks_in, chunk_of, some_has, last_next, last_sparse}
 use Rattle.keeper_open.proofs.Noting.{cons_cases, first_in, later_in, none_in}
-use Rattle.keeper_open.proofs.Gathering.{some_at, recipe_read, set_at, mapped_in, all_in}
+use Rattle.keeper_open.proofs.Gathering.{recipe_read, set_at, mapped_in}
+use Rattle.damage_laws.proofs.Elements.{some_at, all_in}
 use Rattle.keeper_open.proofs.Damaging.{floor_version}
 use Rattle.keeper_open.proofs.SumBytes.{fp-is_fp}
 use Rattle.keeper_open.proofs.Stated.{container_of, containers_in, dataset_of, state_of, all_from, length_map, all_rows_are, container_found, ids_back, row_stands, dataset_is, version_is, version_back, located, recipe_among, set_in, in_set, map_at}

@@ -108,8 +108,3 @@ fn bad_row(place: RowPlace) -> Fault
         why: Why::BadRow(place.row),
     }
 }
-
-/// Blobs of which a place is damaged first open as no state: what is told as damage is in the way of every state.
-pub fn damaged_blobs_open_as_no_state()
-    ensures { (m : Blobs) (k : Kinds) (n : ℕ) (w : Whys) (T : State) → IsFirstDamage m k n w → Opens m T → ⊥ }
-{}

@@ -22,9 +22,9 @@ use Rattle.vault_types.specs.Shelf.{Blobs, floor_name, recipe_name, table_name, 
 use Rattle.vault_types.specs.BlobDamage.{IsFloorIn, IsFloorWhy, IsRecipeWhy, IsTableWhy}
 use Rattle.state_laws.proofs.Growing.{rows_of}
 use Rattle.vault_types.specs.FirstDamage.{Opens, ReadsRecipe, ReadsTable, IsDue, IsRowAt, IsNamed, IsInTable, IsLower, IsRecipeFirst, IsFirstDamage}
-use Rattle.keeper_open.proofs.Gathering.{some_at, at_below, in_place, all_in}
-use Rattle.keeper_open.proofs.Noting.{cons_cases, first_in, later_in, none_in}
-use Rattle.keeper_open.proofs.Damaging.{floor_unique, recipe_unique}
+use Rattle.state_laws.proofs.Members.{here, later}
+use Rattle.damage_laws.proofs.Elements.{some_at, at_below, in_place, all_in}
+use Rattle.damage_laws.proofs.Unique.{floor_unique, recipe_unique}
 
 all_index : {X : Type 0} (P : X → Type 0) (xs : List X) (i : ℕ) (d : X) → AllByRecursion P xs → i < length xs → P (slice_index_or xs i d)
 all_index P [] i d all below = absurd (omega arith)
@@ -55,8 +55,8 @@ found_container (d ∷ cs) id c is = by_test (λ h. found_container cs id c h) (
     by_test rest true e h =
         let same : d ≡ c = cc in
         let number : d.table.id ≡ id = grind (arith, nat_tests) in
-        (subst (λ (x : Container). Contains (d ∷ cs) x) same (first_in d cs), subst (λ (x : Container). x.table.id ≡ id) same number)
-    by_test rest false e h = let found = rest h in (later_in d c cs found.0, found.1)
+        (subst (λ (x : Container). Contains (d ∷ cs) x) same (here d cs), subst (λ (x : Container). x.table.id ≡ id) same number)
+    by_test rest false e h = let found = rest h in (later d cs c found.0, found.1)
 
 version_parts : (d : Dataset) (v : ℕ) (k : KeptVersion) → version_in d v ≡ Some k → (d.floor ≤ v) × (slice_get d.versions (v - d.floor) ≡ Some k)
 version_parts d v k is = by_test (nat_lt v d.floor) refl is

@@ -1,10 +1,9 @@
 -- A run that ends where the shelf is opened.
-use Rattle.std.proofs.Common.{◌≡◌, inl, inr, ◌≤◌, ◌++◌, ℕ, List, [], ◌∷◌, Option, Some, refl, sym, ap, subst, arith, ◌∙◌}
+use Rattle.std.proofs.Common.{◌≡◌, inl, inr, ℕ, List, [], ◌∷◌, Option, Some, sym, ap, subst, ◌∙◌}
 use Rattle.std.specs.Prelude.{IsSomeAnd}
 use Rattle.vault_types.specs.declared.Fault.{Fault}
-use Rattle.vault_types.specs.declared.Fault.TheVariants as fault
 use Rattle.vault_types.specs.declared.Answer.{Answer}
-use Rattle.vault_traits.specs.Told.{ShelfTold, SinkTold}
+use Rattle.vault_traits.specs.Told.{SinkTold}
 use Rattle.store_model.specs.World.{World, status_after, report_text, IsPrinted, IsTold}
 use Rattle.store_model.specs.Early.{HasOpened, IsSameBut, IsStartFault}
 use Rattle.store_model.specs.Run.{EndsAtOpening}
@@ -39,7 +38,7 @@ module _ (a b : Answer) (one answers : List Answer) (is : one ≡ b ∷ []) (sam
 -- a run whose end hands on what it was given
 pub ran : (Runs : World → World → List Answer → Option Fault → Type 0) (before now end : World) (answers others : List Answer) (f g : Option Fault) (status : ℕ) → end ≡ now → others ≡ answers → g ≡ f → status ≡ status_after answers f
     → HasOpened before.shelf → Runs before now answers f → GoesOn Runs before end others g status
-ran Runs before now end answers others f g status as all same stat opened runs = record {
-  course = inr (record { opened = opened; runs = subst (λ (w : World). Runs before w others g) (sym as) (subst (λ (l : List Answer). Runs before now l g) (sym all) (subst (λ (h : Option Fault). Runs before now answers h) (sym same) runs)) });
+ran Runs before now end answers others f g status there all same stat opened runs = record {
+  course = inr (record { opened = opened; runs = subst (λ (w : World). Runs before w others g) (sym there) (subst (λ (l : List Answer). Runs before now l g) (sym all) (subst (λ (h : Option Fault). Runs before now answers h) (sym same) runs)) });
   status_is = stat ∙ ap (λ (l : List Answer). status_after l f) (sym all) ∙ ap (λ (h : Option Fault). status_after others h) (sym same);
 }

@@ -67,7 +67,13 @@ pub(crate) fn run_restore<S: Shelf, K: ShelfStore<S>, I: Source, O: Sink, R: Sin
     };
     let (mut store, mut out) = (store, out);
     let result = store.restore(alloc, set, version, cache, &mut out);
-    ended_on_report(store, one_answer(room, answer_from(result)), input, out, report)
+    ended_on_report(
+        store,
+        one_answer(room, answer_from(result)),
+        input,
+        out,
+        report,
+    )
 }
 
 // Deletes versions; the report is on `out`.

@@ -46,9 +46,7 @@ fn run_command<S: Shelf, K: ShelfStore<S>, P: Places, I: Source, O: Sink, R: Sin
                 sample: None,
                 ..
             },
-        ) => run_backup::<S, K, I, O, R>(
-            alloc, set, &config, limits, shelf, input, out, report,
-        ),
+        ) => run_backup::<S, K, I, O, R>(alloc, set, &config, limits, shelf, input, out, report),
         Ok(
             Command::Restore {
                 set,
@@ -56,9 +54,7 @@ fn run_command<S: Shelf, K: ShelfStore<S>, P: Places, I: Source, O: Sink, R: Sin
                 cache,
                 area: None,
             },
-        ) => run_restore::<S, K, I, O, R>(
-            alloc, set, version, cache, shelf, input, out, report,
-        ),
+        ) => run_restore::<S, K, I, O, R>(alloc, set, version, cache, shelf, input, out, report),
         Ok(Command::Delete { set, through }) => run_delete::<S, K, I, O, R>(
             alloc, set, through, shelf, input, out, report,
         ),
@@ -85,9 +81,7 @@ fn run_command<S: Shelf, K: ShelfStore<S>, P: Places, I: Source, O: Sink, R: Sin
         Ok(Command::Fill { seed, versions, .. }) => run_fill::<S, K, I, O, R>(
             alloc, seed, versions, limits, shelf, input, out, report,
         ),
-        Ok(Command::Migrate) => run_migrate::<S, K, I, O, R>(
-            alloc, shelf, input, out, report,
-        ),
+        Ok(Command::Migrate) => run_migrate::<S, K, I, O, R>(alloc, shelf, input, out, report),
         Ok(Command::Scrub { .. }) => ended_early(alloc, Fault::Usage, shelf, input, out, report),
     }
 }

@@ -51,6 +51,6 @@ returns g c p =
     let before : World = world (s c.args.shelf) p (i c.args.input) (o c.args.out) r in
     let now : World = world (s run.1) p (i c.args.input) (o c.print_filled-fault.new.out) r in
     let runs = filled c.args.seed c.args.versions c.args.limits.now before now c.in-Ok.made.0.items c.as_slice-script.result.now run.0.items c.as_slice.result.now f c.in-Ok.made.1 c.run_over.new.places
-        c.in-Ok.ensures.lines c.as_slice-script.ensures.value c.as_slice.ensures.value c.in-Ok.ensures.places c.in-Ok-run_over.ensures.runs c.in-Ok-run_over.ensures.room c.print_filled-fault.ensures refl refl refl in
+    c.in-Ok.ensures.lines c.as_slice-script.ensures.value c.as_slice.ensures.value c.in-Ok.ensures.places c.in-Ok-run_over.ensures.runs c.in-Ok-run_over.ensures.room c.print_filled-fault.ensures refl refl refl in
     ran (RunsFill true c.args.seed c.args.versions c.args.limits.now) before now (world (s done.shelf) p (i done.input) (o done.out) r) run.0.items done.answers.items f done.fault done.status
     (λ j. world (s (e.shelf j)) p (i (e.input j)) (o (e.out j)) r) e.answers e.fault e.status c.in-Ok-run_over.ensures.opened runs

@@ -20,5 +20,5 @@ returns g c p =
     let one = c.one_answer.result.items in
     let printed = printed_one a c.answer_from.result one done.answers.items c.one_answer.ensures c.answer_from.ensures e.answers before.out now.out done.fault e.printed in
     let runs = migrate_run g.K.StateKeeper.shelf g.K.StateKeeper.keeps g.K.StateKeeper.strays g.K.StateKeeper.keeps_is g.K.StateKeeper.strays_known before now c.in-Ok.opened.0 c.migrate-result.new.self c.migrate-result.result done.fault
-        c.in-Ok.ensures.same e.shelf c.in-Ok.ensures.strays c.in-Ok.ensures.keeps c.migrate-result.ensures printed refl (ap i e.input) refl in
+    c.in-Ok.ensures.same e.shelf c.in-Ok.ensures.strays c.in-Ok.ensures.keeps c.migrate-result.ensures printed refl (ap i e.input) refl in
     one_answer a c.answer_from.result one done.answers.items c.one_answer.ensures c.answer_from.ensures e.answers RunsMigrate before now done.fault done.status e.status c.in-Ok.ensures.opened runs

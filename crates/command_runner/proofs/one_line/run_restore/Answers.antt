@@ -22,6 +22,6 @@ returns g c limits p =
     let one = c.one_answer.result.items in
     let printed = printed_one a c.answer_from.result one done.answers.items c.one_answer.ensures c.answer_from.ensures e.answers before.report now.report done.fault e.printed in
     let runs = restore_run g.K.StateKeeper.shelf g.K.StateKeeper.keeps g.K.StateKeeper.strays g.K.StateKeeper.keeps_is g.K.StateKeeper.strays_known limits before now c.in-Ok.opened.0 c.restore-result.new.self c.args.set c.args.version c.args.cache c.restore-result.result done.fault
-        c.in-Ok.ensures.same e.shelf c.in-Ok.ensures.strays c.in-Ok.ensures.keeps c.restore-result.ensures printed (ap i e.input) refl in
+    c.in-Ok.ensures.same e.shelf c.in-Ok.ensures.strays c.in-Ok.ensures.keeps c.restore-result.ensures printed (ap i e.input) refl in
     subst (λ (t : SinkTold). GoesOn (RunsRestore c.args.set c.args.version c.args.cache limits) before (world (s done.shelf) p (i done.input) t (r c.ended_on_report.new.report)) done.answers.items done.fault done.status) (sym (ap o e.out))
     (one_answer a c.answer_from.result one done.answers.items c.one_answer.ensures c.answer_from.ensures e.answers (RunsRestore c.args.set c.args.version c.args.cache limits) before now done.fault done.status e.status c.in-Ok.ensures.opened runs)

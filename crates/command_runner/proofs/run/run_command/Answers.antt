@@ -1,5 +1,5 @@
 use Rattle.std.specs.Prelude.{true, string_bytes}
-use Rattle.std.proofs.Common.{◌≡◌, ◌∙◌, ap, List, ℕ, map, Option, Some, None}
+use Rattle.std.proofs.Common.{◌∙◌, ap, ℕ, map, Option, Some, None}
 use Rattle.vault_types.specs.declared.Command.{Command}
 use Rattle.vault_types.specs.declared.Command.TheVariants as command
 use Rattle.store_model.specs.World.{World, world}
@@ -7,11 +7,11 @@ use Rattle.store_model.specs.Courses.{RunsBackup, RunsDelete, RunsRestore, RunsS
 use Rattle.store_model.specs.Filling.{RunsFill}
 use Rattle.store_model.specs.Migrating.{RunsMigrate}
 use Rattle.word_ranges.proofs.Commands.{of_words}
-use Rattle.command_runner.proofs.Runs.{batch, one_line, unbuilt}
+use Rattle.command_runner.proofs.Runs.{batch, one_line}
 use Rattle.command_runner.proofs.run.run_command.Goals as goal
 
 pub run_backup-requires-clause-config : goal.run_backup-requires-clause-config
-run_backup-requires-clause-config g c κs within =
+run_backup-requires-clause-config g c =
     let x = c.in-Ok-Backup-default-default-default-default-None in
     of_words (map string_bytes c.args.words.now) (command.Backup x.set x.config x.field-0-2 x.field-0-3 x.field-0-4) (x.ensures.ok ∙ ap (λ (d : Command). Some d) x.field-0-is)
 
@@ -22,15 +22,15 @@ returns-in-Ok-Backup-default-default-default-default-None g c =
     let now : World = world (g.S.Shelf.told c.run_backup.result.shelf) (g.P.Places.told c.args.places.now) (g.I.Source.told c.run_backup.result.input) (g.O.Sink.told c.run_backup.result.out) (g.R.Sink.told c.run_backup.new.report) in
     let r = c.run_backup.result in
     one_line (map string_bytes c.args.words.now) c.args.limits.now before now r.answers.items (command.Backup x.set x.config x.field-0-2 x.field-0-3 None) r.fault r.status (RunsBackup x.set x.config c.args.limits.now)
-    (x.ensures.ok ∙ ap (λ (d : Command). Some d) x.field-0-is ∙ ap (λ (o : Option ℕ). Some (command.Backup x.set x.config x.field-0-2 x.field-0-3 o)) x.field-0-4-is) tt (λ ran. ran) (c.run_backup.ensures (g.P.Places.told c.args.places.now))
+    (x.ensures.ok ∙ ap (λ (d : Command). Some d) x.field-0-is ∙ ap (λ (o : Option (ℕ × ℕ)). Some (command.Backup x.set x.config x.field-0-2 x.field-0-3 o)) x.field-0-4-is) tt (λ ran. ran) (c.run_backup.ensures (g.P.Places.told c.args.places.now))
 
 pub run_restore-requires-clause-some : goal.run_restore-requires-clause-some
-run_restore-requires-clause-some g c κs within =
+run_restore-requires-clause-some g c =
     let x = c.in-Ok-Restore-default-default-default-None in
     (of_words (map string_bytes c.args.words.now) (command.Restore x.set x.version x.cache x.field-0-3) (x.ensures.ok ∙ ap (λ (d : Command). Some d) x.field-0-is)).0
 
 pub run_restore-requires-clause-few : goal.run_restore-requires-clause-few
-run_restore-requires-clause-few g c κs within =
+run_restore-requires-clause-few g c =
     let x = c.in-Ok-Restore-default-default-default-None in
     (of_words (map string_bytes c.args.words.now) (command.Restore x.set x.version x.cache x.field-0-3) (x.ensures.ok ∙ ap (λ (d : Command). Some d) x.field-0-is)).1
 
@@ -70,7 +70,7 @@ returns-in-Ok-Batch g c =
     batch (map string_bytes c.args.words.now) c.args.limits.now before now r.answers.items r.fault r.status x.field-0-0 x.field-0-1 x.field-0-2 (x.ensures.ok ∙ ap (λ (d : Command). Some d) x.field-0-is) c.run_batch.ensures
 
 pub run_fill-requires-clause-few : goal.run_fill-requires-clause-few
-run_fill-requires-clause-few g c κs within =
+run_fill-requires-clause-few g c =
     let x = c.in-Ok-Fill in
     (of_words (map string_bytes c.args.words.now) (command.Fill x.seed x.versions x.field-0-2 x.field-0-3 x.field-0-4) (x.ensures.ok ∙ ap (λ (d : Command). Some d) x.field-0-is)).1
 

@@ -18,8 +18,8 @@ returns-in-Ok-script_plain g c =
     let q = g.P.Places.told c.script_plain.new.places in
     let o = g.O.Sink.told in
     let done = c.in-Ok-script_plain.done in
-    let end = c.ended_on_out-in-Ok-script_plain.result in
-    let e = c.ended_on_out-in-Ok-script_plain.ensures in
+    let end = c.ended_on_out.result in
+    let e = c.ended_on_out.ensures in
     record {
       course = inr (record {
         opened = c.in-Ok.ensures.opened;

@@ -7,7 +7,7 @@ ghost use Rattle.store_model.specs.Ranges.{AreLimits, IsLineInRange};
 ghost use Rattle.store_model.specs.World.{world};
 ghost use Rattle.command_runner.specs.Going.{GoesOn};
 
-use crate::ending::{Ended, ended_early, ended_on_out};
+use crate::ending::{RunEnd, ended_early, ended_on_out};
 use crate::store::ShelfStore;
 use script_runner::{Done, script_plain};
 use std::alloc::Global;
@@ -24,13 +24,14 @@ pub(crate) fn run_lines<S: Shelf, K: ShelfStore<S>, P: Places, I: Source, O: Sin
     input: I,
     out: O,
     report: &mut R,
-) -> Ended<S, I, O>
+) -> RunEnd<S, I, O>
     requires apart { AreApartLines lines.now }
     requires ranges { AllByRecursion IsLineInRange lines.now }
     requires limits { AreLimits limits.now }
     ensures { GoesOn (RanLines true lines.now limits.now)
         (world (S.told shelf) (P.told places.old) (I.told input) (O.told out) (R.told report.old))
-        (world (S.told result.shelf) (P.told places.new) (I.told result.input) (O.told result.out) (R.told report.new))
+        (world (S.told result.shelf) (P.told places.new)
+            (I.told result.input) (O.told result.out) (R.told report.new))
         result.answers.items result.fault result.status }
 {
     let store = match K::start(alloc, shelf) {

@@ -1,7 +1,7 @@
 -- What `fill` prints, and what it runs.
-use Rattle.std.specs.Prelude.{true, min, codes, decimal, IsSome}
+use Rattle.std.specs.Prelude.{true, min, IsSome}
 use Rattle.std.proofs.Common.{◌≡◌, ◌≤◌, ◌<◌, ◌+◌, ◌-◌, ℕ, zero, suc, List, [], ◌∷◌, ◌++◌, length, length-drop, drop, get_or, Option, Some, None, refl, sym, ap, subst, arith, ◌∙◌, append_assoc, add-one}
-use Rattle.std.proofs.Math.Seq.{drop-cons, drop-length}
+use Rattle.std.proofs.Math.Seq.{drop-cons}
 use Rattle.std.proofs.lemmas.List.{append-nil}
 use Rattle.vault_types.specs.declared.Fault.{Fault}
 use Rattle.vault_types.specs.declared.Answer.{Answer}
@@ -10,7 +10,7 @@ use Rattle.vault_types.specs.declared.Limits.{Limits}
 use Rattle.vault_types.specs.Generator.{generated, fill_lines}
 use Rattle.vault_types.specs.Script.{Sources}
 use Rattle.vault_types.specs.State.{State}
-use Rattle.vault_traits.specs.Told.{SinkTold, PlacesTold, Files, Takes}
+use Rattle.vault_traits.specs.Told.{SinkTold, Files, Takes}
 use Rattle.store_model.specs.Leaves.{Begins}
 use Rattle.store_model.specs.Outputs.{AreFedBy}
 use Rattle.store_model.specs.Room.{NeedRoom}

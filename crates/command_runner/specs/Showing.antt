@@ -1,11 +1,11 @@
 -- The recipe of a version, as a store reads it.
-use Rattle.std.specs.Prelude.{◌≡◌, ℕ, false, IsTrue, List, [], ◌∷◌, length, Option, None, IsSome, IsSomeAnd, Result, IfOk, IfErr}
+use Rattle.std.specs.Prelude.{◌≡◌, ℕ, false, IsTrue, [], ◌∷◌, length, None, IsSome, IsSomeAnd, Result, IfOk, IfErr}
 use Rattle.vault_types.specs.declared.Fault.{Fault}
 use Rattle.vault_types.specs.declared.Fault.TheVariants as fault
 use Rattle.vault_types.specs.declared.Recipe.{Recipe}
 use Rattle.vault_types.specs.declared.Answer.{Answer}
 use Rattle.vault_types.specs.declared.Answer.TheVariants.{Refused, Shown}
-use Rattle.vault_types.specs.State.{State, KeptVersion, is_kept, floor_of, latest_of, version_of, recipe_of}
+use Rattle.vault_types.specs.State.{State, is_kept, floor_of, latest_of, version_of, recipe_of}
 use Rattle.vault_types.specs.Texts.{recipe_text}
 use Rattle.vault_traits.specs.Counts.{Rose}
 use Rattle.vault_traits.specs.Told.{ShelfTold, SinkTold, Takes}

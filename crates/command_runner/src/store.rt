@@ -8,13 +8,13 @@ ghost use Rattle.store_model.specs.Early.{HasOpened, IsSameBut, IsStartFault};
 ghost use Rattle.store_model.specs.Migrating.{MigratesStore};
 ghost use Rattle.command_runner.specs.Showing.{ReadsRecipe};
 
-use script_runner::Store;
+use script_runner::LineStore;
 use std::alloc::Global;
 use vault_traits::Shelf;
 use vault_types::{Answer, Fault, Recipe, Set, Version};
 
 /// A store that opens on a shelf, and gives it back.
-pub trait ShelfStore<S: Shelf>: Store {
+pub trait ShelfStore<S: Shelf>: LineStore {
     /// Opens the store. It writes nothing; `StoreFault`, `Damaged` with the first damage in the order of opening, `Memory`.
     fn start(alloc: Global, shelf: S) -> Result<Self, (Fault, S)>
         ensures opened { IfOk result (λ k. HasOpened (S.told shelf)) }

@@ -4,10 +4,11 @@
 
 ghost use Rattle.std.specs.Prelude.{true, ◌≤◌, map, string_bytes};
 ghost use Rattle.store_model.specs.Run.{IsRun};
+ghost use Rattle.store_model.specs.World.{world};
 ghost use Rattle.command_runner.specs.Completes.{IsCompleteRun};
 ghost use Rattle.command_runner.specs.Unbuilt.{Unbuilt};
 
-pub use command_runner::Ended;
+pub use command_runner::RunEnd;
 use command_runner::run_words;
 use keeper_store::KeeperStore;
 pub use report_printer::tell;
@@ -30,7 +31,7 @@ pub fn run_plain<S: Shelf, P: Places, I: Source + Send, O: Sink + Send, R: Sink>
     input: I,
     out: O,
     report: &mut R,
-) -> Ended<S, I, O>
+) -> RunEnd<S, I, O>
     requires chunks { 1 ≤ limits.now.chunks }
     requires chunks_high { limits.now.chunks ≤ 4194304 }
     requires last { 1 ≤ limits.now.last }
@@ -38,36 +39,14 @@ pub fn run_plain<S: Shelf, P: Places, I: Source + Send, O: Sink + Send, R: Sink>
     requires script { 1 ≤ limits.now.script }
     requires script_high { limits.now.script ≤ 1048576 }
     ensures run { IsRun true Unbuilt (map string_bytes words.now) limits.now
-        (record {
-          shelf = S.told shelf;
-          places = P.told places.old;
-          input = I.told input;
-          out = O.told out;
-          report = R.told report.old;
-        })
-        (record {
-          shelf = S.told result.shelf;
-          places = P.told places.new;
-          input = I.told result.input;
-          out = O.told result.out;
-          report = R.told report.new;
-        })
+        (world (S.told shelf) (P.told places.old) (I.told input) (O.told out) (R.told report.old))
+        (world (S.told result.shelf) (P.told places.new)
+        (I.told result.input) (O.told result.out) (R.told report.new))
         result.answers.items result.fault result.status }
     ensures complete { IsCompleteRun (map string_bytes words.now) limits.now
-        (record {
-          shelf = S.told shelf;
-          places = P.told places.old;
-          input = I.told input;
-          out = O.told out;
-          report = R.told report.old;
-        })
-        (record {
-          shelf = S.told result.shelf;
-          places = P.told places.new;
-          input = I.told result.input;
-          out = O.told result.out;
-          report = R.told report.new;
-        })
+        (world (S.told shelf) (P.told places.old) (I.told input) (O.told out) (R.told report.old))
+        (world (S.told result.shelf) (P.told places.new)
+        (I.told result.input) (O.told result.out) (R.told report.new))
         result.answers.items result.fault }
 {
     run_words::<S, KeeperStore<S>, P, I, O, R>(

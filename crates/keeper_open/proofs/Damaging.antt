@@ -1,41 +1,23 @@
 -- What the first bad place of a shelf is.
-use Rattle.std.proofs.Common.{◌≡◌, ◌≢◌, ◌⊎◌, inl, inr, ⊎_elim, ℕ, zero, suc, ◌+◌, ◌-◌, ◌*◌, ◌^◌, ◌<◌, ◌≤◌, Bool, true, false, cond, List, [], ◌∷◌, ◌++◌, map, flat_map, length, get_or, Option, Some, None, refl, sym, ap, subst, ◌∙◌, arith}
-use Rattle.std.specs.Prelude.{Contains, IsSome, IfSome, MatchOption, option_map, unwrap_or, slice_get}
-use Rattle.std.specs.List.{last_or}
+use Rattle.std.proofs.Common.{◌≡◌, inr, ⊎_elim, ℕ, suc, ◌+◌, ◌-◌, ◌<◌, ◌≤◌, true, false, List, [], ◌∷◌, length, Option, Some, None, refl, sym, ap, subst, ◌∙◌, arith}
+use Rattle.std.specs.Prelude.{IsSome, MatchOption, option_map, unwrap_or, slice_get}
 use Rattle.std.specs.FinMap as fin
-use Rattle.std.proofs.lemmas.Bool.{cases_lt, cases_eq}
-use Rattle.std.proofs.lemmas.List.{append-nil}
+use Rattle.std.proofs.lemmas.Bool.{cases_lt}
 use Rattle.vault_types.specs.declared.Kind.{Kind}
 use Rattle.vault_types.specs.declared.Kind.TheVariants as kind
 use Rattle.vault_types.specs.declared.Why.{Why}
 use Rattle.vault_types.specs.declared.Why.TheVariants as why
 use Rattle.vault_types.specs.declared.Recipe.{Recipe}
 use Rattle.vault_types.specs.Blobs.{SpellsFloor, IsVersion}
-use Rattle.vault_types.specs.Shelf.{Blobs, recipe_name, floor_name}
-use Rattle.vault_types.specs.BlobDamage.{IsFloorIn, IsRecipeWhy}
-use Rattle.recipe_store.proofs.Apart.{recipes_apart, floors_apart}
+use Rattle.vault_types.specs.Shelf.{Blobs, recipe_name}
+use Rattle.vault_types.specs.BlobDamage.{IsFloorIn}
 use Rattle.keeper_catalog.specs.declared.SetInfo.{SetInfo}
 use Rattle.keeper_open.specs.declared.notes.Notes.{Notes}
-use Rattle.vault_types.specs.FirstDamage.{ReadsRecipe, IsListedFrom, IsDueFrom, IsRecipeDue, IsAfter, IsGoodRecipe, IsBefore, FloorsBefore, RecipesBefore, IsLower, IsRecipeFirst, IsFirstDamage, IsDamageOf}
-use Rattle.keeper_open.specs.Reading.{SetRead, AreFloors, AreReadInOrder, IsLastDue, IsSetRead, IsVersionWhy, IsVersionDamage, IsSetDamage, IsSetFirst, AreSets, last_next}
-use Rattle.keeper_open.proofs.Gathering.{AreFirstSets, floors_before, some_at, at_below, recipe_read, rising_at, last_at, set_at}
-
--- what is read is one
-
-floors_same : (s f g : ℕ) (o p : Option (List ℕ)) → o ≡ p → MatchOption o (f ≡ 1) (λ bytes. SpellsFloor s bytes f) → MatchOption p (g ≡ 1) (λ bytes. SpellsFloor s bytes g) → f ≡ g
-floors_same s f g None None e one two = one ∙ sym two
-floors_same s f g None (Some b) e one two = absurd cc
-floors_same s f g (Some a) None e one two = absurd cc
-floors_same s f g (Some a) (Some b) e one two = let same : a ≡ b = cc in (floors_apart s f g a b [] one two (append-nil a ∙ same)).0
-
-pub floor_unique : (m : Blobs) (s f g : ℕ) → IsFloorIn (Some m) s f → IsFloorIn (Some m) s g → f ≡ g
-floor_unique m s f g one two = floors_same s f g one.0 two.0 (sym one.1 ∙ two.1) one.2 two.2
-
-pub recipe_unique : (m : Blobs) (s v : ℕ) (r q : Recipe) → ReadsRecipe (Some m) s v r → ReadsRecipe (Some m) s v q → r ≡ q
-recipe_unique m s v r q one two =
-    let found : ◌≡◌ {A = Option (List ℕ)} (Some one.0) (Some two.0) = sym one.1 ∙ two.1 in
-    let same : one.0 ≡ two.0 = cc in
-    (recipes_apart s v r q one.0 two.0 [] one.2 two.2 (append-nil one.0 ∙ same)).0
+use Rattle.vault_types.specs.FirstDamage.{ReadsRecipe, IsDueFrom, IsRecipeDue, IsGoodRecipe, FloorsBefore, RecipesBefore, IsLower, IsRecipeFirst, IsFirstDamage, IsDamageOf}
+use Rattle.keeper_open.specs.Reading.{SetRead, AreFloors, AreReadInOrder, IsLastDue, IsSetRead, IsVersionWhy, IsSetDamage, IsSetFirst, AreSets, last_next}
+use Rattle.keeper_open.proofs.Gathering.{AreFirstSets, floors_before, recipe_read, rising_at, last_at, set_at}
+use Rattle.damage_laws.proofs.Elements.{some_at}
+use Rattle.damage_laws.proofs.Unique.{floor_unique, recipe_unique}
 
 -- a floor is a version
 pub floor_version : (told : Option Blobs) (s f : ℕ) → IsFloorIn told s f → IsVersion f

@@ -7,4 +7,3 @@ pub mod Valid
 pub mod Holding
 pub mod Judging
 pub mod Concluding
-pub mod Lawful

@@ -21,17 +21,14 @@
 //! the work grows as the names, the rows of recipes and the rows of tables do.
 #![tactic(auto)]
 
-ghost use Rattle.std.specs.Prelude.{◌≡◌, ℕ, IfOk};
+ghost use Rattle.std.specs.Prelude.{◌≡◌, IfOk};
 ghost use Rattle.vault_types.specs.declared.Fault.TheVariants as fault;
-ghost use Rattle.vault_types.specs.declared.Kind.{Kind as Kinds};
-ghost use Rattle.vault_types.specs.declared.Why.{Why as Whys};
 ghost use Rattle.vault_types.specs.declared.Kind.TheVariants as kind;
 ghost use Rattle.vault_types.specs.declared.Why.TheVariants as why;
 ghost use Rattle.vault_types.specs.State.{State};
 ghost use Rattle.vault_traits.specs.Shelf.{IsAsBefore};
 ghost use Rattle.vault_traits.specs.Causes.{HasCauses};
-ghost use Rattle.vault_types.specs.Shelf.{Blobs};
-ghost use Rattle.vault_types.specs.FirstDamage.{Opens, IsFirstDamage, IsDamageOf};
+ghost use Rattle.vault_types.specs.FirstDamage.{IsDamageOf};
 ghost use Rattle.keeper_open.specs.Opening.{IsStoreOpened};
 
 mod listing;
@@ -110,8 +107,3 @@ fn bad_row(place: RowPlace) -> Fault
         why: Why::BadRow(place.row),
     }
 }
-
-/// Blobs of which a place is damaged first open as no state: what is told as damage is in the way of every state.
-pub fn damaged_blobs_open_as_no_state()
-    ensures { (m : Blobs) (k : Kinds) (n : ℕ) (w : Whys) (T : State) → IsFirstDamage m k n w → Opens m T → ⊥ }
-{}

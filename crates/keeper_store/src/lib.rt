@@ -4,7 +4,7 @@
 use command_runner::ShelfStore;
 use keeper_core::Keeper;
 use script_laws::StateKeeper;
-use script_runner::Store;
+use script_runner::LineStore;
 use serial_backup::backup_line;
 use serial_delete::delete_plain;
 use serial_migrate::migrate_plain;
@@ -50,7 +50,7 @@ impl<S: Shelf> StateKeeper for KeeperStore<S> {
     ghost strays_known = { λ k S other keep n stray. known_of k S other keep n stray };
 }
 
-impl<S: Shelf> Store for KeeperStore<S> {
+impl<S: Shelf> LineStore for KeeperStore<S> {
     fn full(&self, set: Set, limits: &Limits) -> bool {
         self.keeper.full(set, limits)
     }

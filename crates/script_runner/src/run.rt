@@ -12,7 +12,7 @@ ghost use Rattle.store_model.specs.Script.{RunsLines};
 ghost use Rattle.store_model.specs.Steps.{StepsLine, read_numbered, write_numbered};
 ghost use Rattle.store_model.specs.Ranges.{IsLineInRange, AreLimits};
 
-use crate::store::Store;
+use crate::store::LineStore;
 use std::alloc::Global;
 use vault_traits::{Places, Refused};
 use vault_types::text::Text;
@@ -20,7 +20,7 @@ use vault_types::{Answer, Fault, JobConfig, Limits, Line, Memory, Set, Version};
 
 /// What a run of lines gives back: the store, and one answer for each line.
 #[derive(Drop)]
-pub struct Done<K: Store> {
+pub struct Done<K: LineStore> {
     pub store: K,
     pub answers: Vec<Answer>,
 }
@@ -46,7 +46,7 @@ fn with_write_number(fault: Fault, number: u64) -> Fault
 }
 
 // A line that backs a source up.
-fn backup_line<K: Store, P: Places>(
+fn backup_line<K: LineStore, P: Places>(
     alloc: Global,
     store: &mut K,
     set: Set,
@@ -84,7 +84,7 @@ fn backup_line<K: Store, P: Places>(
 }
 
 // A line that restores a version.
-fn restore_line<K: Store, P: Places>(
+fn restore_line<K: LineStore, P: Places>(
     alloc: Global,
     store: &mut K,
     set: Set,
@@ -127,7 +127,7 @@ fn restore_line<K: Store, P: Places>(
 }
 
 // A line that deletes versions.
-fn delete_line<K: Store, P: Places>(
+fn delete_line<K: LineStore, P: Places>(
     store: &mut K,
     set: Set,
     through: Version,
@@ -144,7 +144,7 @@ fn delete_line<K: Store, P: Places>(
     }
 }
 
-fn one_line<K: Store, P: Places>(
+fn one_line<K: LineStore, P: Places>(
     alloc: Global,
     store: &mut K,
     line: &Line,
@@ -176,7 +176,7 @@ fn one_line<K: Store, P: Places>(
 /// Runs the lines one after another, each over the places that it names. Each answers, and a refused one leaves the
 /// store's versions; `Memory` comes before the first, and then nothing has changed. Where the sinks of the places have
 /// room for so many bytes, one fails only where the version is longer.
-pub fn script_plain<K: Store, P: Places>(
+pub fn script_plain<K: LineStore, P: Places>(
     alloc: Global,
     store: K,
     lines: &[Line],

@@ -11,7 +11,7 @@ use vault_traits::{Sink, Source};
 use vault_types::{Answer, Fault, Id, JobConfig, Limits, Set, Version};
 
 /// A store between two lines: it has no job and no pin. Each call that runs a line does what the line means.
-pub trait Store: StateKeeper {
+pub trait LineStore: StateKeeper {
     /// Whether the set may have no version more.
     fn full(&self, set: Set, limits: &Limits) -> bool
         ensures { (S : State) (other : Option Change) → Self.keeps self.now S other

@@ -2,7 +2,7 @@ use Rattle.std.proofs.Common.{[], subst}
 use Rattle.keeper_catalog.specs.View.{View}
 use Rattle.store_model.specs.Calls.{DeletesLine}
 use Rattle.keeper_core.specs.Keeping.{IsStateOf, IsKnownStray}
-use Rattle.keeper_store.proofs.KeeperStoreStore.delete.Goals as goal
+use Rattle.keeper_store.proofs.KeeperStoreLineStore.delete.Goals as goal
 
 pub returns : goal.returns
 returns g c =

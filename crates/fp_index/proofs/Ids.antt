@@ -4,7 +4,7 @@ use Rattle.std.specs.Prelude.{nat_eq, nat_lt, insert, slice_get, is_ok, OnErr}
 use Rattle.std.specs.Option.{option_map_or}
 use Rattle.std.specs.List.{AllByRecursion, remove}
 use Rattle.std.proofs.lemmas.Bool.Decides.{nat_tests}
-use Rattle.vault_types.specs.Lists.{has, with_number, set_of, greatest, IsAscending}
+use Rattle.vault_types.specs.Lists.{has, with_number, greatest, IsAscending}
 use Rattle.vault_types.proofs.SetLemmas.{has-with_number, IsAscending-with_number, ascending_unique}
 use Rattle.fp_index.specs.Lists.{without}
 

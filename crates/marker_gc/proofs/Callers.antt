@@ -1,13 +1,11 @@
 -- For callers: marks that say the same.
-use Rattle.std.proofs.Common.{◌≡◌, ℕ, Bool, true, false, cond, ◌&&◌, ◌||◌, max, List, [], ◌∷◌, map, refl, sym, ap, ◌∙◌, arith, Option, Some, None}
-use Rattle.std.specs.Prelude.{nat_eq, nat_lt, filter}
-use Rattle.std.specs.Option.{option_map_or}
+use Rattle.std.proofs.Common.{◌≡◌, ℕ, Bool, true, false, cond, ◌&&◌, ◌||◌, List, [], ◌∷◌, map, refl, sym, ap, ◌∙◌}
+use Rattle.std.specs.Prelude.{nat_eq, filter}
 use Rattle.std.specs.List.{list_any}
 use Rattle.std.specs.List.Sorted.{IsPermutation}
-use Rattle.std.proofs.lemmas.Bool.Decides.{nat_tests}
 use Rattle.std.proofs.lemmas.List.Sorted.{list_any-IsPermutation, IsPermutation-map, All-permutation}
 use Rattle.std.proofs.lemmas.List.Elements.{All-from_recursion, recursion_from_All}
-use Rattle.vault_types.specs.Lists.{has, with_number, set_of, greatest}
+use Rattle.vault_types.specs.Lists.{has, set_of, greatest}
 use Rattle.vault_types.specs.Marks.{Mark, marked_ids}
 use Rattle.vault_types.proofs.SetLemmas.{greatest-set_of, has-set_of, IsAscending-set_of, ascending_unique}
 use Rattle.marker_gc.specs.Markers.{is_of, marker_of, AreMarkers}

@@ -17,7 +17,7 @@ use Rattle.restore_assembler.specs.declared.payload.Payload.{Payload}
 use Rattle.restore_assembler.specs.declared.progress.Progress.{Progress}
 use Rattle.restore_assembler.specs.Payloads.{ids_of, without_payload, AreCovering, AreKnown, Covers, run_length, first_id}
 use Rattle.vault_traits.specs.CutOff.{IsCutOff}
-use Rattle.restore_assembler.specs.Writing.{AreWritten}
+use Rattle.restore_assembler.specs.Writing.{IsWrittenWithSum}
 use Rattle.restore_assembler.specs.Progress.{left_spots, left_bytes, IsProgress, HasAdvanced, Advances, starts_with_load}
 use Rattle.restore_assembler.proofs.Runs.{requests_run, run_parts}
 use Rattle.restore_assembler.proofs.Written.{written_nothing, written_then, cut_off_then}
@@ -127,7 +127,7 @@ going_served p q going l is stays done within =
 
 pub advances_served : (p q : Progress) (before now : SinkTold) → drop p.step p.steps.items ≡ Serve ∷ drop (p.step + 1) p.steps.items → q ≡ record p { done = q.done; sum = q.sum } → q.done ≡ p.done + run_length (first_id (left_spots p)) (left_spots p)
     → is_some q.sum ≡ is_some p.sum → before.faults ≤ now.faults
-    → ((payload : ℕ → List ℕ) → AreKnown payload p.present.items → AreWritten (flat_map (spot_bytes payload) (take (run_length (first_id (left_spots p)) (left_spots p)) (left_spots p))) before now p.sum q.sum)
+    → ((payload : ℕ → List ℕ) → AreKnown payload p.present.items → IsWrittenWithSum (flat_map (spot_bytes payload) (take (run_length (first_id (left_spots p)) (left_spots p)) (left_spots p))) before now p.sum q.sum)
     → Advances p (record q { step = q.step + 1 }) before now
 advances_served p q before now is stays done kept later written = record {
   spots = ap (λ (r : Progress). r.spots.items) stays;

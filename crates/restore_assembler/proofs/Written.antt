@@ -11,10 +11,10 @@ use Rattle.vault_traits.specs.Told.{SinkTold, Takes}
 use Rattle.fingerprint_stage.specs.declared.running_sum.RunningSum.{RunningSum}
 use Rattle.vault_traits.specs.CutOff.{IsCutOff}
 use Rattle.vault_traits.proofs.Written.{takes_nothing, takes_then}
-use Rattle.restore_assembler.specs.Writing.{IsSumOf, AreWritten}
+use Rattle.restore_assembler.specs.Writing.{IsSumOf, IsWrittenWithSum}
 
 -- no bytes
-pub written_nothing : (told : SinkTold) (sum : Option RunningSum) → AreWritten [] told told sum sum
+pub written_nothing : (told : SinkTold) (sum : Option RunningSum) → IsWrittenWithSum [] told told sum sum
 written_nothing told sum = record {
   taken = takes_nothing told.taken;
   summed = λ x h. subst (IsSumOf sum) (sym (append-nil x)) h;
@@ -23,7 +23,7 @@ written_nothing told sum = record {
 }
 
 -- two pieces one after another
-pub written_then : (x y : List ℕ) (before mid now : SinkTold) (sum sum' sum'' : Option RunningSum) → AreWritten x before mid sum sum' → AreWritten y mid now sum' sum'' → AreWritten (x ++ y) before now sum sum''
+pub written_then : (x y : List ℕ) (before mid now : SinkTold) (sum sum' sum'' : Option RunningSum) → IsWrittenWithSum x before mid sum sum' → IsWrittenWithSum y mid now sum' sum'' → IsWrittenWithSum (x ++ y) before now sum sum''
 written_then x y before mid now sum sum' sum'' p q = record {
   taken = takes_then before.taken mid.taken now.taken x y p.taken q.taken;
   summed = λ z h. subst (IsSumOf sum'') (append_assoc z x y) (q.summed (z ++ x) (p.summed z h));
@@ -32,7 +32,7 @@ written_then x y before mid now sum sum' sum'' p q = record {
 }
 
 -- the sink failed in the second piece
-pub cut_off_then : (x y : List ℕ) (before mid now : SinkTold) (sum sum' : Option RunningSum) → AreWritten x before mid sum sum' → IsCutOff y mid now → IsCutOff (x ++ y) before now
+pub cut_off_then : (x y : List ℕ) (before mid now : SinkTold) (sum sum' : Option RunningSum) → IsWrittenWithSum x before mid sum sum' → IsCutOff y mid now → IsCutOff (x ++ y) before now
 cut_off_then x y before mid now sum sum' p q = record {
   failed = omega (arith, p.later, q.failed);
   front = x ++ q.front;
@@ -54,7 +54,7 @@ cut_off_before x y before now q = record {
 }
 
 -- the sink failed in a spot of a run
-pub cut_off_in : (payload : List ℕ) (run : List Spot) (i : ℕ) (spot : Spot) (end : ℕ) (before mid now : SinkTold) (sum sum' : Option RunningSum) → i < length run → end ≡ (get_or run i spot).at + (get_or run i spot).len → AreWritten (flat_map (spot_bytes (λ _. payload)) (take i run)) before mid sum sum' → IsCutOff (take (end - (get_or run i spot).at) (drop (get_or run i spot).at payload)) mid now → IsCutOff (flat_map (spot_bytes (λ _. payload)) run) before now
+pub cut_off_in : (payload : List ℕ) (run : List Spot) (i : ℕ) (spot : Spot) (end : ℕ) (before mid now : SinkTold) (sum sum' : Option RunningSum) → i < length run → end ≡ (get_or run i spot).at + (get_or run i spot).len → IsWrittenWithSum (flat_map (spot_bytes (λ _. payload)) (take i run)) before mid sum sum' → IsCutOff (take (end - (get_or run i spot).at) (drop (get_or run i spot).at payload)) mid now → IsCutOff (flat_map (spot_bytes (λ _. payload)) run) before now
 cut_off_in payload run i spot end before mid now sum sum' l is done cut =
     let f : Spot → List ℕ = spot_bytes (λ _. payload) in
     let x : Spot = get_or run i spot in

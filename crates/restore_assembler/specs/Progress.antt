@@ -9,7 +9,7 @@ use Rattle.vault_traits.specs.Told.{SinkTold}
 use Rattle.restore_assembler.specs.declared.progress.Progress.{Progress}
 use Rattle.restore_assembler.specs.Payloads.{ids_of, AreCovering, AreKnown}
 use Rattle.restore_assembler.specs.Copying.{Copying}
-use Rattle.restore_assembler.specs.Writing.{AreWritten}
+use Rattle.restore_assembler.specs.Writing.{IsWrittenWithSum}
 
 -- the spots that are not yet written
 abbrev pub left_spots : Progress → List Spot
@@ -45,7 +45,7 @@ LoadsNext p = p.done < length p.spots.items → IsTrue (starts_with_load (drop p
 pub record HasAdvanced (payload : ℕ → List ℕ) (p q : Progress) (before now : SinkTold) : Type 0 where
   pub bytes : List ℕ
   pub parts : bytes ++ left_bytes payload q ≡ left_bytes payload p
-  pub written : AreWritten bytes before now p.sum q.sum
+  pub written : IsWrittenWithSum bytes before now p.sum q.sum
 
 -- from one state of a restore to a later one
 pub record Advances (p q : Progress) (before now : SinkTold) : Type 0 where

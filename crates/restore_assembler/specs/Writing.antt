@@ -9,7 +9,8 @@ abbrev pub IsSumOf : Option RunningSum → List ℕ → Type 0
 IsSumOf sum bytes = IfSome sum (λ s. HasSummed s bytes)
 
 -- all these bytes were written, and the sum, if there is one, has them too
-pub record AreWritten (bytes : List ℕ) (before now : SinkTold) (sum sum' : Option RunningSum) : Type 0 where
+pub record IsWrittenWithSum (bytes : List ℕ) (before now : SinkTold)
+    (sum sum' : Option RunningSum) : Type 0 where
   pub taken : Takes before.taken now.taken bytes
   pub summed : (x : List ℕ) → IsSumOf sum x → IsSumOf sum' (x ++ bytes)
   pub kept : is_some sum' ≡ is_some sum
@@ -22,4 +23,4 @@ pub record IsWaiting (payload bytes : List ℕ) (start end : ℕ) (before now : 
   pub parts : front ++ take (end - start) (drop start payload) ≡ bytes
   pub ordered : start ≤ end
   pub within : end ≤ length payload
-  pub written : AreWritten front before now sum sum'
+  pub written : IsWrittenWithSum front before now sum sum'

@@ -14,7 +14,7 @@ ghost use Rattle.vault_traits.specs.Counts.{Rose};
 ghost use Rattle.vault_traits.specs.Told.{SinkTold};
 ghost use Rattle.restore_assembler.specs.Payloads.{ids_of, Covers, AreCovering, AreKnown, run_length, first_id};
 ghost use Rattle.vault_traits.specs.CutOff.{IsCutOff};
-ghost use Rattle.restore_assembler.specs.Writing.{IsSumOf, AreWritten};
+ghost use Rattle.restore_assembler.specs.Writing.{IsSumOf, IsWrittenWithSum};
 ghost use Rattle.restore_assembler.specs.Copying.{wanted as wanted_of, IsWanted, IsCovered, HasCopied, IsOutputFault, IsTakenAt, version_bytes};
 ghost use Rattle.restore_assembler.specs.Progress.{left_spots, left_bytes, starts_with_load, IsProgress, LoadsNext, IsSumming, Advances, seen_of};
 
@@ -66,7 +66,7 @@ impl Progress {
             ≡ self.old.done + run_length (first_id (left_spots self.old)) (left_spots self.old)) }
         ensures within { OnOk result (self.new.done ≤ length self.old.spots.items) }
         ensures ok { OnOk result ((payload : ℕ → List ℕ) → AreKnown payload self.old.present.items
-            → AreWritten
+            → IsWrittenWithSum
             (flat_map (spot_bytes payload)
             (take (run_length (first_id (left_spots self.old)) (left_spots self.old))
             (left_spots self.old)))

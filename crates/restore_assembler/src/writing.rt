@@ -2,7 +2,7 @@
 ghost use Rattle.std.specs.Prelude.{◌≡◌, ◌≤◌, ◌+◌, take, drop, length, flat_map, All, OnOk, OnErr};
 ghost use Rattle.vault_types.specs.Bytes.{spot_bytes};
 ghost use Rattle.vault_traits.specs.CutOff.{IsCutOff};
-ghost use Rattle.restore_assembler.specs.Writing.{AreWritten};
+ghost use Rattle.restore_assembler.specs.Writing.{IsWrittenWithSum};
 
 use fingerprint_stage::RunningSum;
 use vault_traits::{Failed, Sink, write_all};
@@ -14,7 +14,8 @@ fn write_piece<K: Sink>(
     sum: &mut Option<RunningSum>,
     sink: &mut K,
 ) -> Result<(), Failed>
-    ensures ok { OnOk result (AreWritten piece.now (K.told sink.old) (K.told sink.new) sum.old sum.new) }
+    ensures ok { OnOk result
+        (IsWrittenWithSum piece.now (K.told sink.old) (K.told sink.new) sum.old sum.new) }
     ensures err { OnErr result (IsCutOff piece.now (K.told sink.old) (K.told sink.new)) }
 {
     write_all(piece, sink)?;
@@ -33,7 +34,8 @@ pub fn write_run<K: Sink>(
 ) -> Result<(), Failed>
     requires { All (λ spot. spot.at + spot.len ≤ length payload.now) run.now }
     ensures ok { OnOk result
-        (AreWritten (flat_map (spot_bytes (λ _. payload.now)) run.now) (K.told sink.old) (K.told sink.new)
+        (IsWrittenWithSum (flat_map (spot_bytes (λ _. payload.now)) run.now) (K.told sink.old)
+        (K.told sink.new)
         sum.old sum.new) }
     ensures err { OnErr result
         (IsCutOff (flat_map (spot_bytes (λ _. payload.now)) run.now) (K.told sink.old) (K.told sink.new)) }

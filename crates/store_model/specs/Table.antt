@@ -24,29 +24,29 @@ MayBeAnswer limits S line (Refused f) = IsTrue (is_of_state f || may_refuse limi
 MayBeAnswer limits S line other = Unit {0}
 
 -- what is wrong with a payload: it is not there, or it has another length or another sum than its table says
-abbrev pub IsWrongPayload : Container → Why → Type 0
-IsWrongPayload c why.Absent = c.payload ≡ None
-IsWrongPayload c (why.Length want found) =
+abbrev pub IsBadPayload : Container → Why → Type 0
+IsBadPayload c why.Absent = c.payload ≡ None
+IsBadPayload c (why.Length want found) =
     (want ≡ payload_len c.table.rows) × IsSomeAnd c.payload (λ p. found ≡ length p) × (want ≢ found)
-IsWrongPayload c (why.Sum want found) =
+IsBadPayload c (why.Sum want found) =
     (want ≡ c.table.payload_sum) × IsSomeAnd c.payload (λ p. found ≡ fp p) × (want ≢ found)
-IsWrongPayload c other = ⊥
+IsBadPayload c other = ⊥
 
 -- what is wrong with a recipe that is spelled: a row is not in its table with its length, or the
 -- version's bytes have another sum
-abbrev pub IsWrongRecipe : State → ℕ → ℕ → Why → Type 0
-IsWrongRecipe S s v (why.BadRow i) =
+abbrev pub IsBadRecipe : State → ℕ → ℕ → Why → Type 0
+IsBadRecipe S s v (why.BadRow i) =
     IsSomeAnd (version_of S s v) (λ k. IsSomeAnd (slice_get k.rows i) (λ r. HasRow S.containers r → ⊥))
-IsWrongRecipe S s v (why.Whole want found) =
+IsBadRecipe S s v (why.Whole want found) =
     IsSomeAnd (version_of S s v) (λ k. want ≡ k.sum) × (found ≡ fp (bytes_of S s v)) × (want ≢ found)
-IsWrongRecipe S s v other = ⊥
+IsBadRecipe S s v other = ⊥
 
 -- what a restore of a version may find damaged: its recipe, or a payload
 abbrev pub IsDamage : State → ℕ → ℕ → Kind → ℕ → Why → Type 0
 IsDamage S s v kind.Table number why = ⊥
 IsDamage S s v kind.Payload number why =
-    IsSomeAnd (container_in S.containers number) (λ c. IsWrongPayload c why)
-IsDamage S s v kind.Recipe number why = IsWrongRecipe S s v why
+    IsSomeAnd (container_in S.containers number) (λ c. IsBadPayload c why)
+IsDamage S s v kind.Recipe number why = IsBadRecipe S s v why
 IsDamage S s v kind.Floor number why = ⊥
 
 -- a restore that was done found none: the bytes have the version's sum. Damage that refuses one is there

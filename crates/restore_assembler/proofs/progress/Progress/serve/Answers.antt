@@ -3,7 +3,7 @@ use Rattle.std.proofs.lemmas.Result.{err_from_is_err_and}
 use Rattle.vault_types.specs.Bytes.{spot_bytes}
 use Rattle.restore_assembler.specs.Payloads.{run_length, first_id}
 use Rattle.vault_traits.specs.CutOff.{IsCutOff}
-use Rattle.restore_assembler.specs.Writing.{AreWritten}
+use Rattle.restore_assembler.specs.Writing.{IsWrittenWithSum}
 use Rattle.restore_assembler.proofs.Runs.{run_found, bytes_found, next_within, next_bytes, run_parts}
 use Rattle.restore_assembler.proofs.Written.{cut_off_before}
 use Rattle.restore_assembler.proofs.progress.Progress.serve.Goals as goal
@@ -37,6 +37,6 @@ returns-clause-ok g c = λ payload known.
     let told = g.K.Sink.told in
     let run = run_found p.spots.items c.deref.result.now p.done c.run_len-run.result c.deref.ensures.value c.run_len-run.ensures.run in
     let bytes = bytes_found p.spots.items c.deref.result.now p.done p.present.items c.as_slice.result.now c.bytes_of-bytes.result.now c.deref.ensures.value c.as_slice.ensures.value c.bytes_of-bytes.ensures in
-    subst (λ (bs : List ℕ). AreWritten bs (told c.args.sink.now) (told c.write_run.new.sink) p.sum c.write_run.new.sum)
+    subst (λ (bs : List ℕ). IsWrittenWithSum bs (told c.args.sink.now) (told c.write_run.new.sink) p.sum c.write_run.new.sum)
     (next_bytes payload p.spots.items c.deref.result.now p.done c.run_len-run.result p.present.items c.bytes_of-bytes.result.now c.deref.ensures.value run bytes c.requires.present known)
     c.in_ok-write_run.ensures.ok

@@ -2,4 +2,5 @@ pub mod Stands
 pub mod Calls
 pub mod Mends
 pub mod Deletes
+pub mod Commits
 pub mod Replacing

@@ -40,8 +40,8 @@ module _ (u : View) (info : JobInfo) (open_job : u.job ≡ Some info) (r : Recip
   pub done : {T : Type 0} (x : T) → CommitsRecipe info r u.memo l entries rest u.told told (Ok x) → CommitsJob r u (over u.pending) (Ok x)
   done x commits = record {
     ok = λ K j keeps can.
-      let may = with_recipe K j keeps can in
-      commit_done u K keeps info open_job j r can told l rest (commits.memo K j may) (commits.index K j may) (commits.held K j may keeps.held);
+        let may = with_recipe K j keeps can in
+        commit_done u K keeps info open_job j r can told l rest (commits.memo K j may) (commits.index K j may) (commits.held K j may keeps.held);
     err = tt;
     spelled = λ K j keeps can. commits.spelled K j (with_recipe K j keeps can);
     recipes = λ K j keeps can s n i below is. commits.others K j (with_recipe K j keeps can) (recipe_name s n) (not_next K j r keeps.core can s n i is);
@@ -65,10 +65,10 @@ module _ (u : View) (info : JobInfo) (open_job : u.job ≡ Some info) (r : Recip
   untried why cause commits = record {
     ok = tt;
     err = λ K j keeps can.
-      let may = with_recipe K j keeps can in
-      commit_untried u (over (due_after (fault_of told.faults why) info.set u.pending)) K keeps info open_job _ None _
-      (commit_still u K keeps info open_job j r can told l rest _ (due_cases (fault_of told.faults why) info.set u.pending) (λ w. commits.still K j w may) (commits.same_index K j may) (commits.before why refl K j _ may keeps.held))
-      (λ here. commits.untried why refl K j may here);
+        let may = with_recipe K j keeps can in
+        commit_untried u (over (due_after (fault_of told.faults why) info.set u.pending)) K keeps info open_job _ None _
+        (commit_still u K keeps info open_job j r can told l rest _ (due_cases (fault_of told.faults why) info.set u.pending) (λ w. commits.still K j w may) (commits.same_index K j may) (commits.before why refl K j _ may keeps.held))
+        (λ here. commits.untried why refl K j may here);
     spelled = tt;
     recipes = λ K j keeps can s n i below is. commits.others K j (with_recipe K j keeps can) (recipe_name s n) (not_next K j r keeps.core can s n i is);
     any_moment = λ K j keeps can here. commits.any_moment K j (with_recipe K j keeps can) keeps.held here;
@@ -89,10 +89,10 @@ module _ (u : View) (info : JobInfo) (open_job : u.job ≡ Some info) (r : Recip
   halted Half commits = record {
     ok = tt;
     err = λ K j keeps can.
-      let may = with_recipe K j keeps can in
-      commit_tried u (over (due_after (halt_fault told.faults Half) info.set u.pending)) K keeps info open_job _ None _ (_, refl)
-      (commit_halved u K keeps info open_job j r can told l rest (λ w. commits.still K j w may) (commits.same_index K j may) (commits.half refl K j may keeps.held))
-      (λ here. commits.any_moment K j may keeps.held here);
+        let may = with_recipe K j keeps can in
+        commit_tried u (over (due_after (halt_fault told.faults Half) info.set u.pending)) K keeps info open_job _ None _ (_, refl)
+        (commit_halved u K keeps info open_job j r can told l rest (λ w. commits.still K j w may) (commits.same_index K j may) (commits.half refl K j may keeps.held))
+        (λ here. commits.any_moment K j may keeps.held here);
     spelled = tt;
     recipes = λ K j keeps can s n i below is. commits.others K j (with_recipe K j keeps can) (recipe_name s n) (not_next K j r keeps.core can s n i is);
     any_moment = λ K j keeps can here. commits.any_moment K j (with_recipe K j keeps can) keeps.held here;

@@ -71,30 +71,30 @@ module _ {T : Type 0} (u m : View) (s n : ℕ) where
   -- the mending failed
   pub unmended_replaces : (f : Fault) → MendsFirst {T = T} u m (Err f) → Replaces {T = T} s n u m (Err f)
   unmended_replaces f mends =
-    let failed = shelf_fault u.told.faults m.told.faults f mends.causes.each in
-    record {
-      ok = tt;
-      spelled = tt;
-      err = λ K keeps.
-        let behind = mends.err K keeps in
-        (K.other, subst (λ (p : Pending). Keeps m (after_refused K.other K.job K.strays p K)) (sym behind.pending) behind, inr refl);
-      others = λ K keeps t v low apart. mends.recipes K keeps t v low;
-      own = λ K k keeps at. inl (mends.recipes K keeps s n (version_high K.state s n k at));
-      tells = mends.tells;
-      any_moment = mends.any_moment;
-      acknowledged = tt;
-      settled = λ K keeps now over.
-        let was : u.pending ≡ Not = sym mends.waits ∙ over in
-        mended_now K u.pending u.told.history m.told.history (λ e. alone K keeps.core.other Not (sym keeps.pending ∙ e) not_failed) (mends.any_moment K keeps (now was)) (λ due. absurd (due was));
-      due = subst (λ (g : Fault). IsDueAfter g s u.pending m.pending) (sym failed.1) (inl mends.waits);
-      not_due = tt;
-      same = (mends.memo, mends.index, mends.pins, mends.job);
-      gets = mends.gets;
-      causes = record {
-        later = mends.causes.later;
-        each = subst (λ (g : Fault). IsCause u.told.faults m.told.faults (IsRecipeDamage u.told.blobs s n) g) (sym failed.1) (subst (λ (g : Fault). IsStoreFault u.told.faults m.told.faults g) failed.1 mends.causes.each);
-      };
-    }
+      let failed = shelf_fault u.told.faults m.told.faults f mends.causes.each in
+      record {
+        ok = tt;
+        spelled = tt;
+        err = λ K keeps.
+            let behind = mends.err K keeps in
+            (K.other, subst (λ (p : Pending). Keeps m (after_refused K.other K.job K.strays p K)) (sym behind.pending) behind, inr refl);
+        others = λ K keeps t v low apart. mends.recipes K keeps t v low;
+        own = λ K k keeps at. inl (mends.recipes K keeps s n (version_high K.state s n k at));
+        tells = mends.tells;
+        any_moment = mends.any_moment;
+        acknowledged = tt;
+        settled = λ K keeps now over.
+            let was : u.pending ≡ Not = sym mends.waits ∙ over in
+            mended_now K u.pending u.told.history m.told.history (λ e. alone K keeps.core.other Not (sym keeps.pending ∙ e) not_failed) (mends.any_moment K keeps (now was)) (λ due. absurd (due was));
+        due = subst (λ (g : Fault). IsDueAfter g s u.pending m.pending) (sym failed.1) (inl mends.waits);
+        not_due = tt;
+        same = (mends.memo, mends.index, mends.pins, mends.job);
+        gets = mends.gets;
+        causes = record {
+          later = mends.causes.later;
+          each = subst (λ (g : Fault). IsCause u.told.faults m.told.faults (IsRecipeDamage u.told.blobs s n) g) (sym failed.1) (subst (λ (g : Fault). IsStoreFault u.told.faults m.told.faults g) failed.1 mends.causes.each);
+        };
+      }
 
   module _ (x : T) (mends : MendsFirst u m (Ok x)) (below : s < 256) (kept : (K : Core) → Keeps u K → IsTrue (is_kept K.state s n)) (mid : ShelfTold) (stays : IsAsBefore m.told mid) where
     abbrev mended_to : Core → Core
@@ -127,27 +127,27 @@ module _ {T : Type 0} (u m : View) (s n : ℕ) where
 
     pub unread_replaces : {U : Type 0} (f : Fault) → mid.gets ≡ m.told.gets → HasCauses {T = U} m.told.faults mid.faults (IsRecipeDamage m.told.blobs s n) (Err f) → Replaces {T = T} s n u unread (Err f)
     unread_replaces f gets causes =
-      let K : Core = mends.core.0 in
-      let keeps = mends.core.1 in
-      let version = version_there K.state s n keeps.core.state (kept K keeps) in
-      let behind = mends.ok K keeps in
-      record {
-        ok = tt;
-        spelled = tt;
-        err = λ J here. (None, subst (λ (p : Pending). Keeps unread (after_refused None J.job J.strays p J)) (sym mends.over) (unread_keeps J here), inl refl);
-        others = λ J here t v low apart. blob_stays J here t v low;
-        own = λ J k here at. inl (blob_stays J here s n (version_high J.state s n k at));
-        tells = goes_on;
-        any_moment = moment;
-        acknowledged = tt;
-        settled = λ J here now over. leaves J here now;
-        due = due_none f s u.pending m.pending mends.over;
-        not_due = tt;
-        same = (mends.memo, mends.index, mends.pins, mends.job);
-        gets = gets ∙ mends.gets;
-        causes = causes_again u.told.faults m.told.faults mid.faults (IsRecipeDamage m.told.blobs s n) (IsRecipeDamage u.told.blobs s n) mends.causes.later causes.later
-            (damage_before (mended_to K) behind.core s n version.0 (omega (arith, below, keeps.core.state.sets)) version.1 m.told.blobs u.told.blobs mends.tells behind.held) f causes.each (Err f) refl;
-      }
+        let K : Core = mends.core.0 in
+        let keeps = mends.core.1 in
+        let version = version_there K.state s n keeps.core.state (kept K keeps) in
+        let behind = mends.ok K keeps in
+        record {
+          ok = tt;
+          spelled = tt;
+          err = λ J here. (None, subst (λ (p : Pending). Keeps unread (after_refused None J.job J.strays p J)) (sym mends.over) (unread_keeps J here), inl refl);
+          others = λ J here t v low apart. blob_stays J here t v low;
+          own = λ J k here at. inl (blob_stays J here s n (version_high J.state s n k at));
+          tells = goes_on;
+          any_moment = moment;
+          acknowledged = tt;
+          settled = λ J here now over. leaves J here now;
+          due = due_none f s u.pending m.pending mends.over;
+          not_due = tt;
+          same = (mends.memo, mends.index, mends.pins, mends.job);
+          gets = gets ∙ mends.gets;
+          causes = causes_again u.told.faults m.told.faults mid.faults (IsRecipeDamage m.told.blobs s n) (IsRecipeDamage u.told.blobs s n) mends.causes.later causes.later
+              (damage_before (mended_to K) behind.core s n version.0 (omega (arith, below, keeps.core.state.sets)) version.1 m.told.blobs u.told.blobs mends.tells behind.held) f causes.each (Err f) refl;
+        }
 
     -- it was put
     module _ (w : Fp) (whole : IsSome u.told.blobs → (K : Core) (k : KeptVersion) → Keeps u K → version_of K.state s n ≡ Some k → w ≡ k.sum)

@@ -3,4 +3,6 @@ pub mod Calls
 pub mod Mends
 pub mod Deletes
 pub mod Commits
+pub mod Pins
+pub mod Releases
 pub mod Replacing

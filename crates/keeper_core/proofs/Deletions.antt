@@ -99,6 +99,12 @@ module _ {T : Type 0} (u m : View) (s n : ℕ) (none : u.job ≡ None) (low : (K
       abbrev tried : View
       tried = record { told = told; memo = l; index = rest; pins = m.pins; job = None; pending = FailedFor s }
 
+      moment : (r : Result ℕ Fault) → DeletesVersions s n m.pins m.memo l entries rest m.told told r → (K : Core) → Keeps u K → LeavesNowIfTold u.told.history (IsNear K.state K.other) → LeavesOnlyIfTold u.told.history told.history (either K)
+      moment r deletes K keeps here =
+          let may = removing K keeps entries same in
+          then (either K) _ _ _ (more (IsNear K.state K.other) (either K) (λ b near. inl near) _ _ (mends.any_moment K keeps here))
+          (more (IsDeleting K.state s n) (either K) (λ b goes. inr goes) _ _ (deletes.any_moment (after_mend K.strays K) may (mends.ok K keeps).held (mended_leaves u m x mends K keeps (λ e. here))))
+
       -- it is done
       module _ (count : ℕ) (deletes : DeletesVersions s n m.pins m.memo l entries rest m.told told (Ok count)) where
         pub done_keeps : (K : Core) → Keeps u K → Keeps done (after_delete s n l.strays K)
@@ -115,10 +121,10 @@ module _ {T : Type 0} (u m : View) (s n : ℕ) (none : u.job ≡ None) (low : (K
         pub done_deletes : (sets : List SetInfo) (info : SetInfo) (floor : ℕ) → sets ≡ l.sets → info ≡ slice_index_or sets s info → floor ≡ info.floor → DeletesThrough s n u done (Ok (Removed s n floor count))
         done_deletes sets info floor sets_are info_is floor_is = record {
           ok = λ K keeps.
-            let r = removing K keeps entries same in
-            let inside : s < length sets = omega (arith, in_range, ap length sets_are, done_sets) in
-            let at = floor_is ∙ floor_after m (after_mend K.strays K) (mends.ok K keeps) (mends.job ∙ none) s n (below K keeps) (low K keeps) l sets info l.strays (deletes.memo (after_mend K.strays K) r) sets_are inside info_is in
-            (low K keeps, (λ i. Removed s n (at i) (deletes.removed (after_mend K.strays K) r i)), done_keeps K keeps);
+              let r = removing K keeps entries same in
+              let inside : s < length sets = omega (arith, in_range, ap length sets_are, done_sets) in
+              let at = floor_is ∙ floor_after m (after_mend K.strays K) (mends.ok K keeps) (mends.job ∙ none) s n (below K keeps) (low K keeps) l sets info l.strays (deletes.memo (after_mend K.strays K) r) sets_are inside info_is in
+              (low K keeps, (λ i. Removed s n (at i) (deletes.removed (after_mend K.strays K) r i)), done_keeps K keeps);
           err = tt;
           still = λ K keeps high. absurd (omega (arith, low K keeps, high));
           last = λ K keeps high. absurd (omega (arith, low K keeps, high));
@@ -128,11 +134,10 @@ module _ {T : Type 0} (u m : View) (s n : ℕ) (none : u.job ≡ None) (low : (K
           memo = tt;
           tells = λ tells. deletes.tells (mends.tells tells);
           recipes = λ tells K keeps t v k in_sets is.
-            deletes.recipes (mends.tells tells) (after_mend K.strays K) (removing K keeps entries same) (mends.ok K keeps).held t v k in_sets is
-            ∙ mends.recipes K keeps t v (version_high K.state t v k (shrinking.version_was K.state s n keeps.core.state (below K keeps) (low K keeps) t v k is));
+              deletes.recipes (mends.tells tells) (after_mend K.strays K) (removing K keeps entries same) (mends.ok K keeps).held t v k in_sets is
+              ∙ mends.recipes K keeps t v (version_high K.state t v k (shrinking.version_was K.state s n keeps.core.state (below K keeps) (low K keeps) t v k is));
           all_recipes = tt;
-          any_moment = λ K keeps here. then (either K) _ _ _ (more (IsNear K.state K.other) (either K) (λ b near. inl near) _ _ (mends.any_moment K keeps here))
-            (more (IsDeleting K.state s n) (either K) (λ b goes. inr goes) _ _ (deletes.any_moment (after_mend K.strays K) (removing K keeps entries same) (mends.ok K keeps).held (mended_leaves u m x mends K keeps (λ e. here))));
+          any_moment = moment _ deletes;
           acknowledged = λ K keeps now. deletes.acknowledged (after_mend K.strays K) (removing K keeps entries same) (mends.ok K keeps).held (mended_leaves u m x mends K keeps now);
           due = tt;
           few = λ high. omega (arith, mends.causes.later, deletes.few high);
@@ -152,7 +157,7 @@ module _ {T : Type 0} (u m : View) (s n : ℕ) (none : u.job ≡ None) (low : (K
         tried_refused = record {
           ok = tt;
           err = λ K keeps. inr (delete_tried u tried K (delete_change s n K.state) f m.told.history (shelf_fault _ _ f deletes.causes.each) (tried_keeps K keeps) (mends.any_moment K keeps)
-            (λ here. deletes.refused_moment (after_mend K.strays K) (removing K keeps entries same) (mended_leaves u m x mends K keeps (λ e. here))));
+              (λ here. deletes.refused_moment (after_mend K.strays K) (removing K keeps entries same) (mended_leaves u m x mends K keeps (λ e. here))));
           still = λ K keeps high. absurd (omega (arith, low K keeps, high));
           last = λ K keeps high. absurd (omega (arith, low K keeps, high));
           cause = λ K keeps. failed_cause u.told.faults m.told.faults told.faults (latest_of K.state s ≤ n) f mends.causes.later deletes.causes.each;
@@ -162,8 +167,7 @@ module _ {T : Type 0} (u m : View) (s n : ℕ) (none : u.job ≡ None) (low : (K
           tells = λ tells. deletes.tells (mends.tells tells);
           recipes = tt;
           all_recipes = λ K keeps t v k below is. deletes.all_recipes t v ∙ mends.recipes K keeps t v (version_high K.state t v k is);
-          any_moment = λ K keeps here. then (either K) _ _ _ (more (IsNear K.state K.other) (either K) (λ b near. inl near) _ _ (mends.any_moment K keeps here))
-            (more (IsDeleting K.state s n) (either K) (λ b goes. inr goes) _ _ (deletes.any_moment (after_mend K.strays K) (removing K keeps entries same) (mends.ok K keeps).held (mended_leaves u m x mends K keeps (λ e. here))));
+          any_moment = moment _ deletes;
           acknowledged = tt;
           due = λ over. absurd (not_failed s (sym over));
           few = tt;

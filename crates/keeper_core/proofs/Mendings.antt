@@ -1,16 +1,17 @@
 -- What a mending leaves that comes before a change of a set.
-use Rattle.std.proofs.Common.{◌≡◌, ◌≤◌, ℕ, List, None, refl, sym, ◌∙◌, subst}
-use Rattle.std.specs.Prelude.{◌≢◌, Result, Ok, Err, OnOk, OnErr, IsSome}
+use Rattle.std.proofs.Common.{◌≡◌, ◌≤◌, ℕ, zero, true, false, List, [], ◌∷◌, Option, Some, None, refl, sym, ◌∙◌, subst, arith}
+use Rattle.std.specs.Prelude.{◌≢◌, Result, Ok, Err, OnOk, OnErr, IsSome, Contains}
 use Rattle.vault_types.specs.declared.Fault.{Fault}
 use Rattle.vault_types.specs.declared.Pending.{Pending}
 use Rattle.vault_types.specs.declared.Pending.TheVariants.{Not}
 use Rattle.vault_types.specs.State.{latest_of}
-use Rattle.vault_types.specs.Shelf.{blob_at, recipe_name}
-use Rattle.vault_types.specs.Events.{Core, IsNear, after_mend}
+use Rattle.vault_types.specs.Shelf.{Blobs, blob_at, recipe_name, floor_name}
+use Rattle.vault_types.specs.Events.{Core, IsCore, IsNear, pinned_containers, after_mend}
 use Rattle.vault_traits.specs.Told.{ShelfTold}
 use Rattle.vault_traits.specs.Crash.{LeavesNowIfTold, LeavesOnlyIfTold}
 use Rattle.vault_traits.specs.Causes.{HasStoreFault}
 use Rattle.state_laws.specs.Parts.{HeldIfTold, without_other}
+use Rattle.state_laws.proofs.Standing.{needs_floor}
 use Rattle.keeper_catalog.specs.declared.SetInfo.{SetInfo}
 use Rattle.keeper_catalog.specs.View.{View, Keeps, HasCore}
 use Rattle.keeper_jobs.specs.Jobs.{Sees}
@@ -19,10 +20,34 @@ use Rattle.keeper_core.specs.Mends.{MendsFirst}
 use Rattle.keeper_core.proofs.Keeping.{sees_of, mended, same_keeps}
 use Rattle.keeper_core.proofs.Removing.{mended_sure}
 
+-- a shelf that tells nothing goes on so: otherwise it would hold each core that has the sets, whatever its strays
+
+silent_stays : (v : View) (K : Core) → Keeps v K → (b : Option Blobs) → ((J : Core) → Sees v.memo.sets v.pending J → HeldIfTold b J) → IsSome b → ⊥
+silent_stays v K keeps None holds some = let clash : false ≡ true = some in cc
+silent_stays v K keeps (Some m) holds some =
+    let J : Core = record { state = K.state; other = K.other; pins = K.pins; strays = floor_name 0 ∷ []; job = K.job; pending = K.pending } in
+    let core : IsCore J = record { state = keeps.core.state; job = keeps.core.job; tables = keeps.core.tables; payloads = keeps.core.payloads; job_set = keeps.core.job_set; pins = keeps.core.pins; numbers = keeps.core.numbers; alone = keeps.core.alone; failed = keeps.core.failed; other = keeps.core.other } in
+    let held = holds J (record { core = core; sets_are = keeps.memo.sets; pending_is = keeps.pending }) in
+    held.apart (floor_name 0) first (needs_floor K.state (pinned_containers K.pins) 0 (omega (arith, keeps.core.state.sets)))
+  where
+    first : Contains (floor_name 0 ∷ []) (floor_name 0)
+    first = (zero, omega arith, refl)
+
+-- so where it tells now, it told before
+told_before : (v : View) (K : Core) → Keeps v K → (b : Option Blobs) → ((J : Core) → Sees v.memo.sets v.pending J → HeldIfTold v.told.blobs J → HeldIfTold b J) → IsSome b → IsSome v.told.blobs
+told_before v K keeps b holds some = by_told v.told.blobs refl
+  where
+    by_told : (t : Option Blobs) → v.told.blobs ≡ t → IsSome t
+    by_told (Some m) is = refl
+    by_told None is = absurd (silent_stays v K keeps b (λ J sees. holds J sees (subst (λ (t : Option Blobs). HeldIfTold t J) (sym is) tt)) some)
+
 -- from what a mending of the shelf ensures
 module _ (u : View) (sets : List SetInfo) (same : sets ≡ u.memo.sets) (told : ShelfTold) (waits : Pending) where
   sees : (K : Core) → Keeps u K → Sees sets u.pending K
   sees K keeps = subst (λ (l : List SetInfo). Sees l u.pending K) (sym same) (sees_of u K keeps)
+
+  told_back : HasCore u → ((K : Core) → Sees sets u.pending K → HeldIfTold u.told.blobs K → HeldIfTold told.blobs K) → IsSome told.blobs → IsSome u.told.blobs
+  told_back some held = told_before u some.0 some.1 told.blobs (λ K here. held K (subst (λ (l : List SetInfo). Sees l u.pending K) (sym same) here))
 
   pub mends_first : {T : Type 0} (r : Result T Fault) → HasCore u → ((K : Core) → Sees sets u.pending K → HeldIfTold u.told.blobs K → HeldIfTold told.blobs K)
       → OnOk r ((K : Core) → Sees sets u.pending K → HeldIfTold u.told.blobs K → HeldIfTold told.blobs (without_other K))
@@ -45,6 +70,7 @@ module _ (u : View) (sets : List SetInfo) (same : sets ≡ u.memo.sets) (told : 
     pins = refl;
     job = refl;
     core = some;
+    told = told_back some held;
     tells = tells;
     gets = gets;
     causes = causes;
@@ -62,6 +88,7 @@ module _ (u : View) (sets : List SetInfo) (same : sets ≡ u.memo.sets) (told : 
     pins = refl;
     job = refl;
     core = some;
+    told = told_back some held;
     tells = tells;
     gets = gets;
     causes = causes;

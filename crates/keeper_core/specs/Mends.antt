@@ -25,8 +25,9 @@ pub record MendsFirst {T : Type 0} (u v : View) (result : Result T Fault) : Type
   pub index : v.index ≡ u.index
   pub pins : v.pins ≡ u.pins
   pub job : v.job ≡ u.job
-  -- some core was kept
+  -- some core was kept. The shelf tells its blobs behind it exactly where it did before
   pub core : HasCore u
   pub tells : IsSome u.told.blobs → IsSome v.told.blobs
+  pub told : IsSome v.told.blobs → IsSome u.told.blobs
   pub gets : v.told.gets ≡ u.told.gets
   pub causes : HasStoreFault u.told.faults v.told.faults result

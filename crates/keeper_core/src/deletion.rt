@@ -15,6 +15,7 @@ ghost use Rattle.state_laws.specs.Parts.{HeldIfTold};
 ghost use Rattle.vault_types.specs.RecipeForms.{KeepsRecipes};
 ghost use Rattle.keeper_catalog.specs.View.{Keeps};
 ghost use Rattle.keeper_core.specs.Deletes.{DeletesThrough};
+ghost use Rattle.keeper_core.specs.Releases.{Releases};
 
 use crate::keeper::{Keeper, Stand};
 use keeper_removals::{delete_versions, release_pin};
@@ -74,21 +75,7 @@ impl<S: Shelf> Keeper<S> {
     /// fails leaves a stray. Takes no memory.
     pub fn release(&mut self, no: PinNo)
         requires { IsTrue (has no (numbers self.old.pins)) }
-        ensures releases { (K : Core) → Keeps self.old K → Keeps self.new (after_release no self.new.memo.strays K) }
-        ensures pins { self.new.pins ≡ without_pin no self.old.pins }
-        ensures others { (K : Core) → Keeps self.old K → (n : Named) → (IsReleased K no n → ⊥) → blob_at self.new.told.blobs n ≡ blob_at self.old.told.blobs n }
-        ensures any_moment { (K : Core) → Keeps self.old K → LeavesNowIfTold self.old.told.history (IsNear K.state K.other)
-            → LeavesOnlyIfTold self.old.told.history self.new.told.history (IsNear K.state K.other) }
-
-        // Each stray was one before or is a name that the pin alone held; none goes, and at most one comes for each removal
-        // that failed.
-        ensures within { (K : Core) → Keeps self.old K → (n : Named) → Contains self.new.memo.strays n → Contains self.old.memo.strays n ⊎ IsReleased K no n }
-        ensures few { self.new.told.faults < 2 ^ 64 - 1 → length self.new.memo.strays + self.old.told.faults ≤ length self.old.memo.strays + self.new.told.faults }
-        ensures added { (added : List Named) × (self.new.memo.strays ≡ self.old.memo.strays ++ added) }
-        ensures tells { IsSome self.old.told.blobs → IsSome self.new.told.blobs }
-        ensures gets { self.new.told.gets ≡ self.old.told.gets }
-        ensures later { self.old.told.faults ≤ self.new.told.faults }
-        ensures same { (self.new.index ≡ self.old.index) × (self.new.job ≡ self.old.job) × (self.new.pending ≡ self.old.pending) }
+        ensures { Releases no self.old self.new }
     {
         release_pin(&mut self.shelf, &mut self.catalog, &mut self.pins, no);
     }

@@ -11,7 +11,8 @@ ghost use Rattle.keeper_catalog.specs.View.{Keeps, HasCore};
 ghost use Rattle.keeper_jobs.specs.Jobs.{names_of, version_by};
 ghost use Rattle.keeper_core.specs.Stands.{index_of, job_of};
 ghost use Rattle.keeper_core.specs.Mends.{MendsFirst};
-ghost use Rattle.keeper_core.specs.Calls.{IsBegun, IsHalf, IsShelfFault, IsDue, due_after};
+ghost use Rattle.keeper_core.specs.Calls.{IsBegun, IsDue, due_after};
+ghost use Rattle.keeper_core.specs.Commits.{CommitsJob, halt_fault};
 
 use crate::keeper::{Begun, Keeper, Stand, next_of_sets};
 use container_store::Sealed;
@@ -128,58 +129,28 @@ impl<S: Shelf> Keeper<S> {
     pub fn commit(&mut self, alloc: Global, index: Index, recipe: Recipe) -> Result<(), Fault>
         requires lent { index ≡ self.old.index }
         requires can { (K : Core) × (j : Job) × Keeps self.old K × CanCommit K j recipe }
-        ensures ok { OnOk result ((K : Core) (j : Job) → Keeps self.old K → CanCommit K j recipe → Keeps self.new (after_commit (version_by K j recipe) j self.new.memo.strays K)) }
-        ensures err { IfErr result (λ f. (K : Core) (j : Job) → Keeps self.old K → CanCommit K j recipe → IsHalf self.old self.new (commit_change (version_by K j recipe) j recipe K.state) None f K) }
-
-        // The recipe's blob is its spelling, and each recipe that was kept is as it was.
-        ensures spelled { OnOk result ((K : Core) (j : Job) → Keeps self.old K → CanCommit K j recipe → Has self.new.told.blobs (recipe_name recipe.set recipe.version) (Some (recipe_bytes recipe))) }
-        ensures recipes { (K : Core) (j : Job) → Keeps self.old K → CanCommit K j recipe → KeepsRecipes K.state self.old.told.blobs self.new.told.blobs }
-
-        // A crash at any moment leaves the state from before or the one after; at `Ok` only the one after.
-        ensures any_moment { (K : Core) (j : Job) → Keeps self.old K → CanCommit K j recipe → LeavesNowIfTold self.old.told.history (IsNear K.state None)
-            → LeavesOnlyIfTold self.old.told.history self.new.told.history (IsNear K.state (Some (commit_change (version_by K j recipe) j recipe K.state))) }
-        ensures acknowledged { OnOk result ((K : Core) (j : Job) → Keeps self.old K → CanCommit K j recipe → LeavesNowIfTold self.new.told.history (IsNear (committed (version_by K j recipe) j K.state) None)) }
-        ensures due { IfErr result (λ f. IsDue f self.old.job self.old.pending self.new.pending) }
-
-        // Where it is done the job's names are no strays any more; where it is refused the recipe's name may be one more,
-        // if the shelf failed.
-        ensures left { OnOk result ((K : Core) (j : Job) → Keeps self.old K → CanCommit K j recipe → AreStraysLeft self.old.memo.strays (recipe_name j.set recipe.version) j.containers self.new.memo.strays) }
-        ensures strays { IfErr result (λ f. (self.new.memo.strays ≡ self.old.memo.strays) ⊎ ((self.new.memo.strays ≡ self.old.memo.strays ++ recipe_name recipe.set recipe.version ∷ []) × IsShelfFault f)) }
-        ensures tells { IsSome self.old.told.blobs → IsSome self.new.told.blobs }
-        ensures pins { self.new.pins ≡ self.old.pins }
-        ensures gets { self.new.told.gets ≡ self.old.told.gets }
-        ensures causes { HasCauses self.old.told.faults self.new.told.faults IsUndamaged result }
+        ensures { CommitsJob recipe self.old self.new result }
     {
         let job = match &self.stand {
             Stand::Here(_) => unreachable!(),
             Stand::Lent(job, _) => *job,
         };
         let mut index = index;
-        match commit_recipe(
+        let committed = commit_recipe(
             alloc,
             &mut self.shelf,
             &mut self.catalog,
             &mut index,
             job,
             recipe,
-        ) {
-            Ok(()) => {
-                self.stand = Stand::Here(index);
-                Ok(())
-            }
-            Err(Halt::Before(Refused::Memory)) => {
-                self.stand = Stand::Here(index);
-                Err(Fault::Memory)
-            }
-            Err(Halt::Before(Refused::Failed)) => {
-                self.stand = Stand::Here(index);
-                self.pending = Pending::FailedFor(job.set);
-                Err(Fault::StoreFault(self.shelf.faults()))
-            }
-            Err(Halt::Half) => {
-                self.stand = Stand::Here(index);
-                self.pending = Pending::FailedFor(job.set);
-                Err(Fault::StoreFault(self.shelf.faults()))
+        );
+        self.stand = Stand::Here(index);
+        match committed {
+            Ok(()) => Ok(()),
+            Err(halt) => {
+                let fault = halt_fault(halt, self.shelf.faults());
+                self.pending = due_after(&fault, job.set, self.pending);
+                Err(fault)
             }
         }
     }
@@ -209,6 +180,17 @@ fn due_after(fault: &Fault, set: Set, pending: Pending) -> Pending
     match fault {
         Fault::StoreFault(_) => Pending::FailedFor(set),
         _ => pending,
+    }
+}
+
+// The fault of a commit that stopped, when the shelf had failed so often.
+fn halt_fault(halt: Halt, faults: u64) -> Fault
+    ensures { result ≡ halt_fault faults halt }
+{
+    match halt {
+        Halt::Before(Refused::Memory) => Fault::Memory,
+        Halt::Before(Refused::Failed) => Fault::StoreFault(faults),
+        Halt::Half => Fault::StoreFault(faults),
     }
 }
 

@@ -86,7 +86,7 @@ impl<S: Shelf> Keeper<S> {
         next_of_sets(&self.catalog.sets)
     }
 
-    /// For a caller's proof: some core is kept. Does nothing.
+    /// For a caller's proof, which can't open a keeper and read its invariant: some core is kept. Does nothing.
     pub fn keeps_some_core(&self)
         ensures { HasCore self.now }
     {

@@ -15,7 +15,8 @@ ghost use Rattle.row_spots.specs.declared.Unplaced.TheVariants as unplaced;
 ghost use Rattle.row_spots.specs.Spots.{spot_in, HasPlace, AreRuled};
 ghost use Rattle.keeper_catalog.specs.Catalog.{memo_of};
 ghost use Rattle.keeper_catalog.specs.View.{Keeps, HasCore};
-ghost use Rattle.keeper_core.specs.Calls.{IsPinned, IsPinDamage, IsWholeOf, IsUnplaced, HasListed, Lists, unplaced_fault};
+ghost use Rattle.keeper_core.specs.Calls.{IsUnplaced, Lists, unplaced_fault};
+ghost use Rattle.keeper_core.specs.Pins.{PinsVersion};
 
 use crate::keeper::Keeper;
 use keeper_catalog::{Catalog, distinct_ids};
@@ -88,17 +89,7 @@ impl<S: Shelf> Keeper<S> {
     /// `Damaged`, where the recipe is absent or is spelled as none, or where one of its rows is not in the table of its
     /// container with its length; `Memory`. After an `Err` nothing is pinned, and all is as before.
     pub fn pin(&mut self, alloc: Global, set: Set, version: Version) -> Result<Pinned, Fault>
-        ensures ok { IfOk result (λ p. IsSome self.old.told.blobs → (K : Core) (k : KeptVersion) → Keeps self.old K → version_of K.state set version ≡ Some k → Keeps self.new (after_pin p.no set version k K) × IsPinned K.state k p.length p.spots.items p.whole) }
-        ensures whole { IfOk result (λ p. IsSome self.old.told.blobs → (K : Core) (k : KeptVersion) → Keeps self.old K → version_of K.state set version ≡ Some k → IsWholeOf self.old.told.blobs set version k p.whole) }
-        ensures pinned { IfOk result (λ p. (K : Core) → Keeps self.old K → (pin : Pin) × (pin.number ≡ p.no) × ((c : Container) → Contains pin.containers c → Contains K.state.containers c) × Keeps self.new (with_pins (K.pins ++ pin ∷ []) K.strays K)) }
-        ensures given { IfOk result (λ p. (ids : List ℕ) × (self.new.pins ≡ self.old.pins ++ record { number = p.no; version = version; ids = ids } ∷ [])) }
-        ensures fresh { IfOk result (λ p. has p.no (numbers self.old.pins) ≡ false) }
-        ensures lists { IfOk result (λ p. (K : Core) → Keeps self.new K → AllByRecursion (HasListed K.pins p.no) p.spots.items) }
-        ensures core { HasCore self.new }
-        ensures err { OnErr result (((K : Core) → Keeps self.old K → Keeps self.new K) × (self.new.pins ≡ self.old.pins)) }
-        ensures same { (self.new.memo ≡ self.old.memo) × (self.new.index ≡ self.old.index) × (self.new.job ≡ self.old.job) × (self.new.pending ≡ self.old.pending) }
-        ensures shelf { (self.new.told.blobs ≡ self.old.told.blobs) × (self.new.told.history ≡ self.old.told.history) × (self.new.told.gets ≡ self.old.told.gets) }
-        ensures causes { (K : Core) → Keeps self.old K → HasCauses self.old.told.faults self.new.told.faults (IsPinDamage self.old.told.blobs K.state set version) result }
+        ensures { PinsVersion set version self.old self.new result }
     {
         let recipe = get_recipe(alloc, &mut self.shelf, set, version)?;
         let rows = recipe.rows.as_slice();

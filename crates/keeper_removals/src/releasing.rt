@@ -11,6 +11,7 @@ ghost use Rattle.restore_pins.specs.Pins.{numbers, listed_ids, without_pin, AreL
 ghost use Rattle.state_laws.specs.Parts.{HeldIfTold};
 ghost use Rattle.keeper_catalog.specs.Catalog.{memo_of, IsMemoOf, HasRoom};
 ghost use Rattle.deletion_laws.specs.Releasing.{IsReleased};
+ghost use Rattle.keeper_removals.specs.Releases.{ReleasesPin};
 ghost use Rattle.keeper_removals.specs.Removals.{Leaves, Releasing};
 
 use crate::leaving::let_go;
@@ -74,33 +75,8 @@ pub fn release_pin<S: Shelf>(shelf: &mut S, catalog: &mut Catalog, pins: &mut Pi
     requires given { IsTrue (has no (numbers pins.old)) }
     requires can { (K : Core) × Releasing (memo_of catalog.old) pins.old K }
     requires room { HasRoom (memo_of catalog.old) }
-    ensures memo { (K : Core) → Releasing (memo_of catalog.old) pins.old K
-        → IsMemoOf (memo_of catalog.new) (after_release no catalog.new.strays.items K) }
-    ensures pins { (K : Core) → Releasing (memo_of catalog.old) pins.old K
-        → AreListsOf pins.new (pins_without no K.pins) }
-    ensures left { pins.new ≡ without_pin no pins.old }
-    ensures held { (K : Core) → Releasing (memo_of catalog.old) pins.old K
-        → HeldIfTold (S.told shelf.old).blobs K
-        → HeldIfTold (S.told shelf.new).blobs (after_release no catalog.new.strays.items K) }
-    ensures others { (K : Core) → Releasing (memo_of catalog.old) pins.old K → (n : Named)
-        → (IsReleased K no n → ⊥) → blob_at (S.told shelf.new).blobs n ≡ blob_at (S.told shelf.old).blobs n }
-
-    // A crash at any moment leaves what it could leave before.
-    ensures any_moment { (K : Core) → Releasing (memo_of catalog.old) pins.old K
-        → LeavesNowIfTold (S.told shelf.old).history (IsNear K.state K.other)
-        → LeavesOnlyIfTold (S.told shelf.old).history (S.told shelf.new).history (IsNear K.state K.other) }
-
-    // Each stray was one before or is a name that the release leaves, and at most one is left for each failure.
-    ensures within { (K : Core) → Releasing (memo_of catalog.old) pins.old K → (n : Named)
-        → Contains catalog.new.strays.items n → Contains catalog.old.strays.items n ⊎ IsReleased K no n }
-    ensures few { (S.told shelf.new).faults < 2 ^ 64 - 1
-        → length catalog.new.strays.items + (S.told shelf.old).faults
-        ≤ length catalog.old.strays.items + (S.told shelf.new).faults }
-    ensures added { (added : List Named) × (catalog.new.strays.items ≡ catalog.old.strays.items ++ added) }
-    ensures room { HasRoom (memo_of catalog.new) }
-    ensures tells { IsSome (S.told shelf.old).blobs → IsSome (S.told shelf.new).blobs }
-    ensures gets { (S.told shelf.new).gets ≡ (S.told shelf.old).gets }
-    ensures later { (S.told shelf.old).faults ≤ (S.told shelf.new).faults }
+    ensures { ReleasesPin no (memo_of catalog.old) (memo_of catalog.new) pins.old pins.new
+        (S.told shelf.old) (S.told shelf.new) }
 {
     let start = catalog.strays.len();
     let ids = pins.release(no);

@@ -32,7 +32,7 @@ use Rattle.keeper_catalog.specs.View.{View, Keeps, HasCore}
 use Rattle.commit_laws.proofs.Listing.{some_same, none_some}
 use Rattle.state_laws.proofs.Members.{clash}
 use Rattle.keeper_core.specs.Calls.{IsWholeOf, IsPinDamage}
-use Rattle.keeper_core.specs.Replacing.{IsRefused}
+use Rattle.keeper_core.specs.Replacing.{IsRefused, Replaces}
 use Rattle.keeper_core.proofs.Replacings.{version_there, near_wider}
 use Rattle.store_model.specs.Complete.{is_counted}
 use Rattle.vault_types.specs.RecipeForms.{IsSecond}
@@ -236,19 +236,8 @@ module _ (u w : View) (s n : ℕ) (range : s < 256) (kept : (K : Core) → Keeps
   read_fault fault.Memory h = tt
   read_fault f h = absurd h
 
--- what a put ensures in every case
-pub record IsReplace (w x : View) (s n : ℕ) : Type 0 where
-  pub others : (K : Core) → Keeps w K → (t m : ℕ) → m ≤ latest_of K.state t → recipe_name t m ≢ recipe_name s n → blob_at x.told.blobs (recipe_name t m) ≡ blob_at w.told.blobs (recipe_name t m)
-  pub own : (K : Core) (k : KeptVersion) → Keeps w K → version_of K.state s n ≡ Some k
-      → (blob_at x.told.blobs (recipe_name s n) ≡ blob_at w.told.blobs (recipe_name s n)) ⊎ (blob_at x.told.blobs (recipe_name s n) ≡ Some (recipe_bytes_2 k.sum (recipe_of s n k)))
-  pub tells : IsSome w.told.blobs → IsSome x.told.blobs
-  pub any_moment : (K : Core) → Keeps w K → LeavesNowIfTold w.told.history (IsNear K.state K.other) → LeavesOnlyIfTold w.told.history x.told.history (IsNear K.state K.other)
-  pub settled : (K : Core) → Keeps w K → (w.pending ≡ pending.Not → LeavesNowIfTold w.told.history (IsNear K.state K.other)) → x.pending ≡ pending.Not → LeavesNowIfTold x.told.history (IsNear K.state None)
-  pub same : (x.memo ≡ w.memo) × (x.index ≡ w.index) × (x.pins ≡ w.pins) × (x.job ≡ w.job)
-  pub gets : x.told.gets ≡ w.told.gets
-
 -- behind a restore
-module _ (u w x : View) (s n : ℕ) (p : IsReplace w x s n) (S : State) (other : Option Change) (summed : Summed u w S other s n) where
+module _ {T : Type 0} (u w x : View) (s n : ℕ) (r : Result T Fault) (p : Replaces s n w x r) (S : State) (other : Option Change) (summed : Summed u w S other s n) where
   abbrev mid : IsStateOf w S other
   mid = summed.leaves.keeps
 
@@ -317,23 +306,21 @@ fault_of u v w fault.Memory low h = tt
 fault_of u v w f low h = absurd h
 
 -- in each state that is kept, from the results of the calls
-module _ (u w x : View) (s n : ℕ) (p : IsReplace w x s n) (each : (S : State) (other : Option Change) → IsStateOf u S other → Summed u w S other s n) where
-  pub put_results : {T : Type 0} (r : Result T Fault) → OnOk r ((J : Core) → Keeps w J → Keeps x (after_mend J.strays J))
-      → OnOk r ((J : Core) (k : KeptVersion) → Keeps w J → version_of J.state s n ≡ Some k → Has x.told.blobs (recipe_name s n) (Some (recipe_bytes_2 k.sum (recipe_of s n k))))
-      → OnOk r ((J : Core) → Keeps w J → LeavesNowIfTold x.told.history (IsNear J.state None)) → OnOk r ((S : State) (other : Option Change) → IsStateOf u S other → PutAgain u x S other s n)
-  put_results (Ok y) ok spelled acknowledged = λ S other here. put_done u w x s n p S other (each S other here) ok spelled acknowledged
-  put_results (Err f) ok spelled acknowledged = tt
+module _ (u w x : View) (s n : ℕ) where
+  pub put_results : {T : Type 0} (r : Result T Fault) → Replaces s n w x r → ((S : State) (other : Option Change) → IsStateOf u S other → Summed u w S other s n) → OnOk r ((S : State) (other : Option Change) → IsStateOf u S other → PutAgain u x S other s n)
+  put_results (Ok y) p each = λ S other here. put_done u w x s n (Ok y) p S other (each S other here) p.ok p.spelled p.acknowledged
+  put_results (Err f) p each = tt
 
-  pub put_refusals : {T : Type 0} (r : Result T Fault) → s < 256 → ((K : Core) → Keeps w K → is_kept K.state s n ≡ true) → OnErr r ((J : Core) → Keeps w J → IsRefused x J) → IfErr r (IsCause w.told.faults x.told.faults (IsRecipeDamage w.told.blobs s n))
+  pub put_refusals : {T : Type 0} (r : Result T Fault) → Replaces s n w x r → ((S : State) (other : Option Change) → IsStateOf u S other → Summed u w S other s n) → s < 256 → ((K : Core) → Keeps w K → is_kept K.state s n ≡ true)
       → IfErr r (λ f. (S : State) (other : Option Change) → IsStateOf u S other → Stopped u x S other s n f)
-  put_refusals (Ok y) range kept err causes = tt
-  put_refusals (Err f) range kept err causes = λ S other here.
+  put_refusals (Ok y) p each range kept = tt
+  put_refusals (Err f) p each range kept = λ S other here.
       let summed = each S other here in
-      put_stopped u w x s n p S other summed f err (read_shows w x s n range kept f causes S other summed.leaves.keeps)
+      put_stopped u w x s n (Err f) p S other summed f p.err (read_shows w x s n range kept f p.causes.each S other summed.leaves.keeps)
 
-  pub put_faults : {T : Type 0} (r : Result T Fault) → u.told.faults ≤ w.told.faults → s < 256 → ((K : Core) → Keeps w K → is_kept K.state s n ≡ true) → IfErr r (IsCause w.told.faults x.told.faults (IsRecipeDamage w.told.blobs s n)) → IfErr r (IsMigrateFault u x)
-  put_faults (Ok y) low range kept causes = tt
-  put_faults (Err f) low range kept causes = fault_of u w x f low (read_fault w x s n range kept f causes)
+  pub put_faults : {T : Type 0} (r : Result T Fault) → Replaces s n w x r → u.told.faults ≤ w.told.faults → s < 256 → ((K : Core) → Keeps w K → is_kept K.state s n ≡ true) → IfErr r (IsMigrateFault u x)
+  put_faults (Ok y) p low range kept = tt
+  put_faults (Err f) p low range kept = fault_of u w x f low (read_fault w x s n range kept f p.causes.each)
 
 -- a whole that is not there
 pub no_whole : (o : Option Fp) → is_some o ≡ false → IsSome o → ⊥

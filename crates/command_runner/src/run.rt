@@ -35,7 +35,7 @@ fn run_command<S: Shelf, K: ShelfStore<S>, P: Places, I: Source, O: Sink, R: Sin
     ensures { IsRun true Unbuilt (map string_bytes words.now) limits.now
         (world (S.told shelf) (P.told places.old) (I.told input) (O.told out) (R.told report.old))
         (world (S.told result.shelf) (P.told places.new)
-            (I.told result.input) (O.told result.out) (R.told report.new))
+        (I.told result.input) (O.told result.out) (R.told report.new))
         result.answers.items result.fault result.status }
 {
     match read_words(alloc, words) {
@@ -101,7 +101,7 @@ fn run_batch<S: Shelf, K: ShelfStore<S>, P: Places, I: Source, O: Sink, R: Sink>
     ensures { BatchGoes limits.now
         (world (S.told shelf) (P.told places.old) (I.told input) (O.told out) (R.told report.old))
         (world (S.told result.shelf) (P.told places.new)
-            (I.told result.input) (O.told result.out) (R.told report.new))
+        (I.told result.input) (O.told result.out) (R.told report.new))
         result.answers.items result.fault result.status }
 {
     let mut input = input;
@@ -138,12 +138,12 @@ pub fn run_words<S: Shelf, K: ShelfStore<S>, P: Places, I: Source, O: Sink, R: S
     ensures run { IsRun true Unbuilt (map string_bytes words.now) limits.now
         (world (S.told shelf) (P.told places.old) (I.told input) (O.told out) (R.told report.old))
         (world (S.told result.shelf) (P.told places.new)
-            (I.told result.input) (O.told result.out) (R.told report.new))
+        (I.told result.input) (O.told result.out) (R.told report.new))
         result.answers.items result.fault result.status }
     ensures complete { IsCompleteRun (map string_bytes words.now) limits.now
         (world (S.told shelf) (P.told places.old) (I.told input) (O.told out) (R.told report.old))
         (world (S.told result.shelf) (P.told places.new)
-            (I.told result.input) (O.told result.out) (R.told report.new))
+        (I.told result.input) (O.told result.out) (R.told report.new))
         result.answers.items result.fault }
 {
     run_command::<S, K, P, I, O, R>(alloc, words, limits, shelf, places, input, out, report)

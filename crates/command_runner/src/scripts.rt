@@ -31,7 +31,7 @@ pub(crate) fn run_lines<S: Shelf, K: ShelfStore<S>, P: Places, I: Source, O: Sin
     ensures { GoesOn (RanLines true lines.now limits.now)
         (world (S.told shelf) (P.told places.old) (I.told input) (O.told out) (R.told report.old))
         (world (S.told result.shelf) (P.told places.new)
-            (I.told result.input) (O.told result.out) (R.told report.new))
+        (I.told result.input) (O.told result.out) (R.told report.new))
         result.answers.items result.fault result.status }
 {
     let store = match K::start(alloc, shelf) {

@@ -120,7 +120,7 @@ module _ (v u w x : View) (before now : SinkTold) (s n slots : ℕ) (some_core :
     later = omega (arith, (p.causes some_core.0 some_core.1).later, stays.later, r.later);
     tells = λ some. r.tells (still_tells v.told.blobs w.told.blobs (stays.blobs ∙ p.shelf.0) some);
     job = r.same.1 ∙ stays.job ∙ p.same.2;
-    pins = r.pins ∙ ap (without pin.no) (stays.pins ∙ p.given.1) ∙ listed_gone pin.no (record { number = pin.no; version = n; ids = p.given.0 }) v.pins refl p.fresh;
+    pins = r.pins ∙ ap (without_pin pin.no) (stays.pins ∙ p.given.1) ∙ listed_gone pin.no (record { number = pin.no; version = n; ids = p.given.0 }) v.pins refl p.fresh;
     state = λ K keeps.
         let q = p.pinned K keeps in
         stayed v u w x K keeps s n pin.no p.fresh p.same.0 stays r.releases r.within r.others p.shelf.0 (q.0, q.1, q.3) (λ tells k kept. (p.ok tells K k keeps kept).0);
@@ -143,7 +143,7 @@ module _ (v u w x : View) (before now : SinkTold) (s n slots : ℕ) (some_core :
     short = tt;
   }
 
-  pub stopped_gone : (f : Fault) → IsStopped u w pin.no before now pin.spots.items (option_map (whole_of s n) pin.whole) (IsAtMostLeast (requests (map (λ q. q.id) pin.spots.items)) slots) f → HasGone v x before now s n slots (Err f)
+  pub stopped_gone : (f : Fault) → IsRestoreStopped u w pin.no before now pin.spots.items (option_map (whole_of s n) pin.whole) (IsAtMostLeast (requests (map (λ q. q.id) pin.spots.items)) slots) f → HasGone v x before now s n slots (Err f)
   stopped_gone f stopped = record {
     left = left_over stopped.stays;
     sink = stopped.later;

@@ -99,12 +99,12 @@ fn add_rows(places: &mut HashMap<Chunk, RowPlace>, number: u64, rows: &[Row]) ->
             number,
             row: at as u32,
         };
-        add_row(places, chunk_of_row(row), place)?;
+        add_row(places, chunk_of(row), place)?;
     }
     Ok(())
 }
 
-fn chunk_of_row(row: &Row) -> Chunk
+fn chunk_of(row: &Row) -> Chunk
     ensures { result ≡ chunk_of_row row.now }
 {
     Chunk {

@@ -1,13 +1,12 @@
 -- What was read is opened.
-use Rattle.std.proofs.Common.{◌≡◌, true, ℕ, List, [], ◌∷◌, ◌++◌, map, length, Option, Some, None, refl, sym, ap, subst, ◌∙◌}
-use Rattle.std.specs.Prelude.{Contains, IsSome, IfSome, filter, not, option_map, find, ◌==◌}
+use Rattle.std.proofs.Common.{◌≡◌, true, ℕ, List, map, length, Option, Some, None, refl, sym, ap, subst, ◌∙◌}
+use Rattle.std.specs.Prelude.{Contains, IsSome, IfSome, filter, not, find, ◌==◌}
 use Rattle.std.specs.Map.{lookup}
 use Rattle.std.specs.FinMap as fin
-use Rattle.vault_types.specs.declared.Fp.{Fp}
 use Rattle.vault_types.specs.declared.Name.{Name}
 use Rattle.vault_types.specs.declared.Row.{Row}
 use Rattle.vault_types.specs.declared.Table.{Table}
-use Rattle.vault_types.specs.Lists.{IsAscending, set_of}
+use Rattle.vault_types.specs.Lists.{IsAscending}
 use Rattle.vault_types.specs.State.{State}
 use Rattle.vault_types.specs.Shelf.{Blobs}
 use Rattle.vault_types.proofs.SetLemmas.{IsAscending-set_of}

@@ -1,9 +1,8 @@
 -- What the first bad place of a shelf is.
-use Rattle.std.proofs.Common.{◌≡◌, ◌≢◌, ◌⊎◌, inl, inr, ⊎_elim, ℕ, zero, suc, ◌+◌, ◌-◌, ◌*◌, ◌^◌, ◌<◌, ◌≤◌, Bool, true, false, cond, List, [], ◌∷◌, ◌++◌, map, flat_map, length, get_or, Option, Some, None, refl, sym, ap, subst, ◌∙◌, arith}
-use Rattle.std.specs.Prelude.{Contains, IsSome, IfSome, MatchOption, option_map, unwrap_or, slice_get}
-use Rattle.std.specs.List.{last_or}
+use Rattle.std.proofs.Common.{◌≡◌, inr, ⊎_elim, ℕ, suc, ◌+◌, ◌-◌, ◌<◌, ◌≤◌, true, false, List, [], ◌∷◌, length, Option, Some, None, refl, sym, ap, subst, ◌∙◌, arith}
+use Rattle.std.specs.Prelude.{IsSome, MatchOption, option_map, unwrap_or, slice_get}
 use Rattle.std.specs.FinMap as fin
-use Rattle.std.proofs.lemmas.Bool.{cases_lt, cases_eq}
+use Rattle.std.proofs.lemmas.Bool.{cases_lt}
 use Rattle.std.proofs.lemmas.List.{append-nil}
 use Rattle.vault_types.specs.declared.Kind.{Kind}
 use Rattle.vault_types.specs.declared.Kind.TheVariants as kind
@@ -11,14 +10,14 @@ use Rattle.vault_types.specs.declared.Why.{Why}
 use Rattle.vault_types.specs.declared.Why.TheVariants as why
 use Rattle.vault_types.specs.declared.Recipe.{Recipe}
 use Rattle.vault_types.specs.Blobs.{SpellsFloor, IsVersion}
-use Rattle.vault_types.specs.Shelf.{Blobs, recipe_name, floor_name}
-use Rattle.vault_types.specs.BlobDamage.{IsFloorIn, IsRecipeWhy}
+use Rattle.vault_types.specs.Shelf.{Blobs, recipe_name}
+use Rattle.vault_types.specs.BlobDamage.{IsFloorIn}
 use Rattle.recipe_store.proofs.Apart.{recipes_apart, floors_apart}
 use Rattle.keeper_catalog.specs.declared.SetInfo.{SetInfo}
 use Rattle.keeper_open.specs.declared.notes.Notes.{Notes}
-use Rattle.vault_types.specs.FirstDamage.{ReadsRecipe, IsListedFrom, IsDueFrom, IsRecipeDue, IsAfter, IsGoodRecipe, IsBefore, FloorsBefore, RecipesBefore, IsLower, IsRecipeFirst, IsFirstDamage, IsDamageOf}
-use Rattle.keeper_open.specs.Reading.{SetRead, AreFloors, AreReadInOrder, IsLastDue, IsSetRead, IsVersionWhy, IsVersionDamage, IsSetDamage, IsSetFirst, AreSets, last_next}
-use Rattle.keeper_open.proofs.Gathering.{AreFirstSets, floors_before, some_at, at_below, recipe_read, rising_at, last_at, set_at}
+use Rattle.vault_types.specs.FirstDamage.{ReadsRecipe, IsDueFrom, IsRecipeDue, IsGoodRecipe, FloorsBefore, RecipesBefore, IsLower, IsRecipeFirst, IsFirstDamage, IsDamageOf}
+use Rattle.keeper_open.specs.Reading.{SetRead, AreFloors, AreReadInOrder, IsLastDue, IsSetRead, IsVersionWhy, IsSetDamage, IsSetFirst, AreSets, last_next}
+use Rattle.keeper_open.proofs.Gathering.{AreFirstSets, floors_before, some_at, recipe_read, rising_at, last_at, set_at}
 
 -- what is read is one
 

@@ -1,16 +1,15 @@
 -- What is read of a shelf, step by step.
-use Rattle.std.proofs.Common.{◌≡◌, ◌≢◌, ◌⊎◌, inl, inr, ⊎_elim, ℕ, zero, suc, ◌+◌, ◌-◌, ◌*◌, ◌^◌, ◌<◌, ◌≤◌, min, max, Bool, true, false, cond, ◌&&◌, ◌||◌, List, [], ◌∷◌, ◌++◌, map, flat_map, length, take, get_or, Option, Some, None, Result, Ok, Err, refl, sym, ap, subst, ◌∙◌, arith, length-append}
-use Rattle.std.specs.Prelude.{Contains, IsSome, IfSome, IfErr, IsErrAnd, find, ◌==◌, option_map, unwrap_or, nat_eq, slice_get}
+use Rattle.std.proofs.Common.{◌≡◌, ⊎_elim, ℕ, zero, suc, ◌+◌, ◌-◌, ◌*◌, ◌^◌, ◌<◌, ◌≤◌, Bool, true, false, cond, ◌||◌, List, [], ◌∷◌, ◌++◌, map, length, take, get_or, Option, Some, None, Result, Ok, Err, refl, sym, ap, subst, ◌∙◌, arith, length-append}
+use Rattle.std.specs.Prelude.{Contains, IfSome, IsErrAnd, find, ◌==◌, option_map, unwrap_or, slice_get}
 use Rattle.std.specs.Option.{option_map_or}
-use Rattle.std.specs.List.{AllByRecursion, last_or, list_any}
+use Rattle.std.specs.List.{AllByRecursion, last_or}
 use Rattle.std.specs.Map.{lookup}
 use Rattle.std.specs.Ordering.{nat_cmp}
 use Rattle.std.specs.BTreeMap.{is_at}
-use Rattle.std.proofs.lemmas.Bool.{cases_lt, cases_eq}
 use Rattle.std.proofs.lemmas.Bool.Decides.{nat_tests}
-use Rattle.std.proofs.lemmas.List.{append_assoc, append-nil, map-append, take_more, take_all}
+use Rattle.std.proofs.lemmas.List.{append_assoc, append-nil, map-append, take_more}
 use Rattle.std.proofs.lemmas.List.Folds.{list_any-append}
-use Rattle.std.proofs.lemmas.List.Elements.{Contains-append_left, Contains-append_right, Contains-append_cases, Contains-push, Contains-push_cases, Contains-get_or}
+use Rattle.std.proofs.lemmas.List.Elements.{Contains-append_cases, Contains-get_or}
 use Rattle.std.proofs.lemmas.List.Concat.{flat_map-append}
 use Rattle.vault_types.specs.declared.Fp.{Fp}
 use Rattle.vault_types.specs.declared.Kind.{Kind}
@@ -21,8 +20,8 @@ use Rattle.vault_types.specs.declared.Fault.{Fault}
 use Rattle.vault_types.specs.declared.Fault.TheVariants as fault
 use Rattle.vault_types.specs.declared.Recipe.{Recipe}
 use Rattle.vault_types.specs.declared.Table.{Table}
-use Rattle.vault_types.specs.Lists.{EachNext, IsAscending, set_of}
-use Rattle.vault_types.specs.Shelf.{Blobs, recipe_name}
+use Rattle.vault_types.specs.Lists.{EachNext, IsAscending}
+use Rattle.vault_types.specs.Shelf.{Blobs}
 use Rattle.vault_traits.specs.Counts.{Rose}
 use Rattle.vault_traits.specs.Causes.{IsCause, HasCauses}
 use Rattle.vault_types.specs.BlobDamage.{IsTableDamage, IsTableWhy, IsFloorIn, IsFloorDamage, IsFloorWhy}
@@ -33,7 +32,7 @@ use Rattle.keeper_open.specs.declared.notes.Chunk.{Chunk}
 use Rattle.keeper_open.specs.declared.notes.RowPlace.{RowPlace}
 use Rattle.keeper_open.specs.declared.notes.Notes.{Notes}
 use Rattle.vault_types.specs.FirstDamage.{ReadsRecipe, ReadsTable, IsDueFrom, FloorsBefore, IsOpeningWhy, IsDamageOf}
-use Rattle.keeper_open.specs.Reading.{SetRead, AreFloors, AreRecipes, AreReadInOrder, IsLastDue, IsSetRead, IsVersionDamage, IsVersionWhy, IsSetDamage, IsSetFirst, AreSets, AreReadTables, last_next, last_sparse, number_of, AreBelow, NotesMore, AreNoted, all_recipes, same_chunk, has_chunk, some_has, left_of, IsFirstTable}
+use Rattle.keeper_open.specs.Reading.{SetRead, AreFloors, AreRecipes, AreReadInOrder, IsLastDue, IsSetRead, IsVersionDamage, IsVersionWhy, IsSetDamage, AreSets, AreReadTables, last_next, last_sparse, number_of, AreBelow, NotesMore, AreNoted, all_recipes, same_chunk, has_chunk, some_has, left_of, IsFirstTable}
 use Rattle.keeper_open.proofs.Noting.{cons_cases, first_in, later_in, none_in}
 
 -- causes

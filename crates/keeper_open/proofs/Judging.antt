@@ -1,6 +1,6 @@
 -- Rows against tables, and the first table or row that is bad.
-use Rattle.std.proofs.Common.{◌≡◌, ◌≢◌, ◌⊎◌, inl, inr, ⊎_elim, ℕ, zero, suc, ◌+◌, ◌-◌, ◌*◌, ◌^◌, ◌<◌, ◌≤◌, Bool, true, false, cond, List, [], ◌∷◌, ◌++◌, map, flat_map, length, Option, Some, None, refl, sym, ap, subst, ◌∙◌, arith}
-use Rattle.std.specs.Prelude.{Contains, IsSome, IfSome, slice_get}
+use Rattle.std.proofs.Common.{◌≡◌, ◌⊎◌, ⊎_elim, ℕ, ◌+◌, ◌-◌, ◌*◌, ◌^◌, ◌<◌, ◌≤◌, Bool, true, false, List, [], ◌++◌, map, length, Option, Some, None, refl, sym, ap, subst, ◌∙◌, arith}
+use Rattle.std.specs.Prelude.{Contains, slice_get}
 use Rattle.std.specs.Map.{lookup}
 use Rattle.std.proofs.lemmas.List.{append-nil}
 use Rattle.vault_types.specs.declared.Kind.{Kind}
@@ -11,15 +11,15 @@ use Rattle.vault_types.specs.declared.Row.{Row}
 use Rattle.vault_types.specs.declared.Table.{Table}
 use Rattle.vault_types.specs.declared.Recipe.{Recipe}
 use Rattle.vault_types.specs.Lists.{set_of}
-use Rattle.vault_types.specs.Shelf.{Blobs, recipe_name}
+use Rattle.vault_types.specs.Shelf.{Blobs}
 use Rattle.blob_parts.proofs.Fields.{blob_same}
 use Rattle.container_store.proofs.TableLemmas.{has_widths}
 use Rattle.container_store.proofs.TableField.{table_field}
 use Rattle.keeper_open.specs.declared.notes.Chunk.{Chunk}
 use Rattle.keeper_open.specs.declared.notes.RowPlace.{RowPlace}
-use Rattle.vault_types.specs.FirstDamage.{ReadsRecipe, ReadsTable, IsRecipeDue, IsRowAt, IsNamedByRow, IsInTable, IsBefore, FloorsBefore, RecipesBefore, TablesBefore, RowsBefore, AreRecipesGood, AreTablesGood, IsFirstDamage, IsOpeningWhy, IsDamageOf}
+use Rattle.vault_types.specs.FirstDamage.{ReadsRecipe, ReadsTable, IsRecipeDue, IsRowAt, IsNamedByRow, IsInTable, IsBefore, FloorsBefore, RecipesBefore, RowsBefore, AreTablesGood, IsFirstDamage, IsOpeningWhy, IsDamageOf}
 use Rattle.keeper_open.specs.Reading.{SetRead, AreFloors, IsSetRead, AreSets, AreReadTables, all_recipes, rows_of_all, chunk_of_row, same_chunk, number_of, placed, AreFirst, IsNotAfter, some_has, left_of, IsFirstTable}
-use Rattle.keeper_open.proofs.Noting.{none_in, not_after_trans}
+use Rattle.keeper_open.proofs.Noting.{not_after_trans}
 use Rattle.keeper_open.proofs.Gathering.{at_below, in_place, place_of, recipe_read, set_at, all_in, mapped_in, floors_before}
 use Rattle.keeper_open.proofs.Damaging.{recipe_unique, due_recipe, due_in, sets_good}
 use Rattle.keeper_open.proofs.Stated.{located, recipe_among, placed_recipe_row, recipe_placed, row_of_recipe, row_in_all, has_is, is_has, set_in, in_set, map_at}

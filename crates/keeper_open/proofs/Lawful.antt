@@ -1,6 +1,6 @@
 -- Blobs that open as a state have no place that is damaged first.
-use Rattle.std.proofs.Common.{◌≡◌, ◌≢◌, ◌⊎◌, inl, inr, ⊎_elim, ℕ, zero, suc, ◌+◌, ◌-◌, ◌*◌, ◌^◌, ◌<◌, ◌≤◌, Bool, true, false, cond, List, [], ◌∷◌, ◌++◌, map, length, get_or, Option, Some, None, refl, sym, ap, subst, ◌∙◌, arith}
-use Rattle.std.specs.Prelude.{Contains, IsSome, IfSome, IsSomeAnd, MatchOption, slice_get, slice_index_or, nat_lt, find, ◌==◌}
+use Rattle.std.proofs.Common.{◌≡◌, ⊎_elim, ℕ, zero, suc, ◌+◌, ◌-◌, ◌<◌, ◌≤◌, Bool, true, false, cond, List, [], ◌∷◌, length, Option, Some, None, refl, sym, ap, subst, ◌∙◌, arith}
+use Rattle.std.specs.Prelude.{Contains, IsSome, IfSome, IsSomeAnd, MatchOption, slice_get, slice_index_or, nat_lt, ◌==◌}
 use Rattle.std.specs.List.{AllByRecursion}
 use Rattle.std.specs.FinMap as fin
 use Rattle.std.proofs.lemmas.Bool.{cases_lt}
@@ -13,17 +13,16 @@ use Rattle.vault_types.specs.declared.Row.{Row}
 use Rattle.vault_types.specs.declared.Table.{Table}
 use Rattle.vault_types.specs.declared.Recipe.{Recipe}
 use Rattle.vault_types.specs.Lists.{EachNext}
-use Rattle.vault_types.specs.Names.{fp}
 use Rattle.vault_types.specs.Tables.{Container, IsTable}
-use Rattle.vault_types.specs.State.{State, Dataset, KeptVersion, empty_dataset, dataset, latest_in, version_in, version_of, floor_of, latest_of, all_rows, container_in, length_of, recipe_of, IsDataset, IsValid}
+use Rattle.vault_types.specs.State.{State, Dataset, KeptVersion, empty_dataset, dataset, version_in, version_of, floor_of, latest_of, container_in, length_of, recipe_of, IsDataset}
 use Rattle.vault_types.specs.Bytes.{HasRow}
-use Rattle.vault_types.specs.Blobs.{floor_bytes, recipe_bytes_1, recipe_bytes_2, table_bytes, IsVersion, IsRecipe, SpellsFloor, SpellsRecipe, SpellsTable}
-use Rattle.vault_types.specs.Shelf.{Blobs, floor_name, recipe_name, table_name, IsFloorBlob, IsRecipeBlob}
-use Rattle.vault_types.specs.BlobDamage.{IsFloorIn, IsFloorWhy, IsRecipeWhy, IsTableWhy}
+use Rattle.vault_types.specs.Blobs.{floor_bytes, recipe_bytes_1, recipe_bytes_2, table_bytes, IsVersion, SpellsFloor, SpellsRecipe, SpellsTable}
+use Rattle.vault_types.specs.Shelf.{Blobs, floor_name, recipe_name, table_name, IsRecipeBlob}
+use Rattle.vault_types.specs.BlobDamage.{IsFloorIn, IsFloorWhy, IsTableWhy}
 use Rattle.state_laws.proofs.Growing.{rows_of}
 use Rattle.vault_types.specs.FirstDamage.{Opens, ReadsRecipe, ReadsTable, IsRecipeDue, IsRowAt, IsNamedByRow, IsInTable, IsLower, IsRecipeFirst, IsFirstDamage}
 use Rattle.keeper_open.proofs.Gathering.{some_at, at_below, in_place, all_in}
-use Rattle.keeper_open.proofs.Noting.{cons_cases, first_in, later_in, none_in}
+use Rattle.keeper_open.proofs.Noting.{first_in, later_in}
 use Rattle.keeper_open.proofs.Damaging.{floor_unique, recipe_unique}
 
 all_index : {X : Type 0} (P : X → Type 0) (xs : List X) (i : ℕ) (d : X) → AllByRecursion P xs → i < length xs → P (slice_index_or xs i d)

@@ -1,13 +1,9 @@
 -- The state that was read: its rows, containers and versions.
-use Rattle.std.proofs.Common.{◌≡◌, ◌≢◌, ◌⊎◌, inl, inr, ⊎_elim, ℕ, zero, suc, ◌+◌, ◌-◌, ◌*◌, ◌^◌, ◌<◌, ◌≤◌, Bool, true, false, cond, ◌&&◌, ◌||◌, List, [], ◌∷◌, ◌++◌, map, flat_map, length, get_or, Option, Some, None, refl, sym, ap, subst, ◌∙◌, arith, length-append}
-use Rattle.std.specs.Prelude.{Contains, IsSome, IfSome, IsSomeAnd, IsTrue, MatchOption, option_map, unwrap_or, slice_get, slice_index_or, nat_eq, nat_lt, find, ◌==◌, is_some}
-use Rattle.std.specs.Option.{option_map_or}
+use Rattle.std.proofs.Common.{◌≡◌, ⊎_elim, ℕ, zero, suc, ◌+◌, ◌-◌, ◌<◌, ◌≤◌, Bool, true, false, cond, ◌||◌, List, [], ◌∷◌, ◌++◌, map, flat_map, length, Option, Some, None, refl, sym, ap, subst, ◌∙◌, arith}
+use Rattle.std.specs.Prelude.{Contains, IsSomeAnd, IsTrue, option_map, slice_get, slice_index_or, nat_eq, nat_lt, find, ◌==◌}
 use Rattle.std.specs.List.{AllByRecursion, last_or, list_any}
-use Rattle.std.specs.Map.{lookup}
-use Rattle.std.specs.FinMap as fin
-use Rattle.std.proofs.lemmas.Bool.{cases_lt, cases_eq}
+use Rattle.std.proofs.lemmas.Bool.{cases_lt}
 use Rattle.std.proofs.lemmas.Bool.Decides.{nat_tests}
-use Rattle.std.proofs.lemmas.List.{append-nil, map-append}
 use Rattle.std.proofs.lemmas.List.Elements.{Contains-append_left, Contains-append_right, Contains-append_cases}
 use Rattle.std.proofs.lemmas.List.Concat.{flat_map-append}
 use Rattle.vault_types.specs.declared.Fp.{Fp}
@@ -15,27 +11,20 @@ use Rattle.vault_types.specs.declared.Row.{Row}
 use Rattle.vault_types.specs.declared.TableRow.{TableRow}
 use Rattle.vault_types.specs.declared.Table.{Table}
 use Rattle.vault_types.specs.declared.Recipe.{Recipe}
-use Rattle.vault_types.specs.Lists.{EachNext, IsAscending, set_of, has}
-use Rattle.vault_types.specs.Names.{fp, same_fp, IsFp}
-use Rattle.vault_types.specs.Tables.{Container, id_of, has_fp, IsTable}
-use Rattle.vault_types.specs.State.{State, Dataset, KeptVersion, empty_dataset, dataset, latest_in, latest_version, next_in, version_in, version_of, floor_of, latest_of, all_rows, named, container_in, HasFp, HasRecipeRules, IsDataset, IsValid}
-use Rattle.vault_types.specs.Bytes.{row_bytes, HasRow}
-use Rattle.vault_types.specs.Blobs.{IsRecipe}
+use Rattle.vault_types.specs.Lists.{IsAscending, set_of, has}
+use Rattle.vault_types.specs.Names.{same_fp}
+use Rattle.vault_types.specs.Tables.{Container, id_of, has_fp}
+use Rattle.vault_types.specs.State.{State, Dataset, KeptVersion, empty_dataset, dataset, version_in, version_of, all_rows, container_in, HasFp}
+use Rattle.vault_types.specs.Bytes.{HasRow}
 use Rattle.vault_types.specs.Shelf.{Blobs, blob_at, payload_name}
 use Rattle.vault_types.specs.Events.{version_in_recipe}
-use Rattle.vault_types.proofs.FillLemmas.{same_fps, bytes_eq-same}
-use Rattle.vault_types.proofs.SetLemmas.{has-set_of, IsAscending-set_of}
-use Rattle.sha1.specs.Sha1.{sha1}
-use Rattle.keeper_catalog.specs.declared.SetInfo.{SetInfo}
-use Rattle.keeper_catalog.specs.Catalog.{set_info}
+use Rattle.vault_types.proofs.FillLemmas.{bytes_eq-same}
+use Rattle.vault_types.proofs.SetLemmas.{has-set_of}
 use Rattle.keeper_open.specs.declared.notes.Chunk.{Chunk}
 use Rattle.keeper_open.specs.declared.notes.RowPlace.{RowPlace}
-use Rattle.vault_types.specs.FirstDamage.{ReadsRecipe, ReadsTable}
-use Rattle.keeper_open.specs.Reading.{SetRead, AreRecipes, AreReadInOrder, IsSetRead, AreSets, AreReadTables, all_recipes, rows_of_all, chunk_of_row, same_chunk, placed_rows, number_of, placed, AreFirst, has_chunk, some_has, left_of, last_next, last_sparse}
+use Rattle.keeper_open.specs.Reading.{SetRead, AreSets, all_recipes, rows_of_all, chunk_of_row, same_chunk, placed_rows, number_of, placed, has_chunk, some_has}
 use Rattle.keeper_open.proofs.Noting.{cons_cases, first_in, later_in, none_in, same_chunks, chunk_self}
-use Rattle.keeper_open.proofs.Gathering.{some_at, at_below, in_place, place_of, recipe_read, set_at, all_in, mapped_in}
-use Rattle.keeper_open.proofs.Damaging.{floor_version}
-use Rattle.vault_types.proofs.SumLemmas.{fp-is_fp}
+use Rattle.keeper_open.proofs.Gathering.{some_at, in_place, place_of, recipe_read, all_in}
 
 abbrev pub container_of : Option Blobs → Table → Container
 container_of told t = record { table = t; payload = blob_at told (payload_name t.id) }

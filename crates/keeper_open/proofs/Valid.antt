@@ -1,6 +1,6 @@
 -- The state that was read is valid, the blobs stand for it, and the memory is that of it.
-use Rattle.std.proofs.Common.{◌≡◌, ◌≢◌, ◌⊎◌, inl, inr, ⊎_elim, ℕ, zero, suc, ◌+◌, ◌-◌, ◌*◌, ◌^◌, ◌<◌, ◌≤◌, Bool, true, false, cond, List, [], ◌∷◌, ◌++◌, map, flat_map, length, Option, Some, None, refl, sym, ap, subst, ◌∙◌, arith}
-use Rattle.std.specs.Prelude.{Contains, IsSome, IfSome, IsSomeAnd, MatchOption, option_map, unwrap_or, slice_get, find, ◌==◌}
+use Rattle.std.proofs.Common.{◌≡◌, inl, inr, ⊎_elim, ℕ, ◌+◌, ◌-◌, ◌<◌, ◌≤◌, true, List, [], ◌∷◌, ◌++◌, map, length, Option, Some, None, refl, sym, ap, subst, ◌∙◌, arith}
+use Rattle.std.specs.Prelude.{Contains, IfSome, MatchOption, option_map, unwrap_or, slice_get, find, ◌==◌}
 use Rattle.std.specs.Option.{option_map_or}
 use Rattle.std.specs.List.{AllByRecursion, last_or}
 use Rattle.std.specs.FinMap as fin
@@ -8,26 +8,23 @@ use Rattle.std.proofs.lemmas.Bool.{cases_lt}
 use Rattle.std.proofs.lemmas.List.{append-nil}
 use Rattle.std.proofs.lemmas.List.Elements.{Contains-append_left, Contains-append_right, Contains-append_cases}
 use Rattle.vault_types.specs.declared.Fp.{Fp}
-use Rattle.vault_types.specs.declared.Name.{Name}
 use Rattle.vault_types.specs.declared.Row.{Row}
 use Rattle.vault_types.specs.declared.Table.{Table}
 use Rattle.vault_types.specs.declared.Recipe.{Recipe}
 use Rattle.vault_types.specs.Lists.{EachNext, IsAscending, set_of}
 use Rattle.vault_types.specs.Marks.{Mark, marks_of}
 use Rattle.vault_types.specs.Names.{fp, IsFp}
-use Rattle.vault_types.specs.Tables.{Container, id_of, IsTable}
-use Rattle.vault_types.specs.State.{State, Dataset, KeptVersion, dataset, latest_in, latest_version, next_in, version_of, floor_of, latest_of, all_rows, container_in, length_of, recipe_of, HasFp, HasRecipeRules, IsDataset, IsValid}
-use Rattle.vault_types.specs.Bytes.{row_bytes, bytes_of, HasRow}
-use Rattle.vault_types.specs.Blobs.{recipe_bytes, recipe_bytes_1, recipe_bytes_2, floor_bytes, table_bytes, IsRecipe, SpellsFloor, SpellsRecipe}
-use Rattle.vault_types.specs.Shelf.{Blobs, floor_name, recipe_name, table_name, IsFloorBlob, IsRecipeBlob, HasContainer, Stands}
+use Rattle.vault_types.specs.Tables.{Container, IsTable}
+use Rattle.vault_types.specs.State.{State, Dataset, KeptVersion, latest_in, latest_version, next_in, version_of, latest_of, all_rows, container_in, length_of, recipe_of, HasFp, HasRecipeRules, IsDataset, IsValid}
+use Rattle.vault_types.specs.Bytes.{row_bytes, HasRow}
+use Rattle.vault_types.specs.Blobs.{recipe_bytes_1, recipe_bytes_2, IsRecipe, SpellsFloor}
+use Rattle.vault_types.specs.Shelf.{Blobs, floor_name, recipe_name, IsFloorBlob, IsRecipeBlob, HasContainer, Stands}
 use Rattle.vault_types.specs.Events.{version_in_recipe}
 use Rattle.vault_types.proofs.SetLemmas.{IsAscending-set_of}
 use Rattle.sha1.specs.Sha1.{sha1}
-use Rattle.set_markers.specs.SetMarkers.{Marked, AreMarkersOfSets}
-use Rattle.keeper_catalog.specs.declared.SetInfo.{SetInfo}
 use Rattle.keeper_catalog.specs.Catalog.{set_info, table_at, Names, AreMarks}
 use Rattle.vault_types.specs.FirstDamage.{Opens, ReadsRecipe, ReadsTable}
-use Rattle.keeper_open.specs.Reading.{SetRead, AreRecipes, IsSetRead, AreSets, AreReadTables, all_recipes, rows_of_all, marks_in, chunk_of_row, some_has, last_next, last_sparse}
+use Rattle.keeper_open.specs.Reading.{SetRead, AreRecipes, IsSetRead, AreSets, AreReadTables, all_recipes, rows_of_all, marks_in, chunk_of_row, some_has}
 use Rattle.keeper_open.proofs.Noting.{cons_cases, first_in, later_in, none_in}
 use Rattle.keeper_open.proofs.Gathering.{some_at, recipe_read, set_at, mapped_in, all_in}
 use Rattle.keeper_open.proofs.Damaging.{floor_version}

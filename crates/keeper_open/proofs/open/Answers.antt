@@ -1,7 +1,7 @@
-use Rattle.std.proofs.Common.{◌≡◌, ◌∙◌, sym, ap, subst, refl, arith, Option, ℕ, List, [], map}
+use Rattle.std.proofs.Common.{◌∙◌, sym, subst, arith, Option, ℕ, List, map}
 use Rattle.std.specs.Prelude.{filter, not}
 use Rattle.vault_types.specs.declared.Fault.{Fault}
-use Rattle.vault_types.specs.Lists.{IsAscending, set_of}
+use Rattle.vault_types.specs.Lists.{IsAscending}
 use Rattle.vault_types.specs.Shelf.{Blobs}
 use Rattle.vault_types.proofs.SetLemmas.{IsAscending-set_of}
 use Rattle.vault_traits.specs.Causes.{IsCause}

@@ -1,4 +1,4 @@
-use Rattle.std.proofs.Common.{◌∙◌, sym, ap, subst, ◌++◌, ◌∷◌, [], List, ℕ, map, ◌≡◌, ◌*◌, ◌+◌, ◌^◌}
+use Rattle.std.proofs.Common.{◌∙◌, sym, ap, subst, ◌++◌, List, ℕ, map, ◌≡◌}
 use Rattle.vault_types.specs.declared.Row.{Row}
 use Rattle.vault_types.specs.declared.Name.{Name}
 use Rattle.vault_types.specs.Marks.{Mark, marks_of}

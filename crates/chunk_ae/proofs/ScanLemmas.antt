@@ -1,6 +1,6 @@
 -- One more byte of a chunk: it goes on, or ends.
-use Rattle.std.proofs.Common.{◌≡◌, ◌⊎◌, inl, inr, take, get_or, append-nil, append_assoc, ℕ, suc, ◌+◌, ◌*◌, ◌-◌, ◌%◌, ◌^◌, ◌<◌, ◌≤◌, ◌==◌, Bool, true, false, List, [], ◌∷◌, ◌++◌, length, refl, sym, ap, ◌∙◌, subst, arith, length-append, Option, Some, None}
-use Rattle.std.specs.Prelude.{nat_le, nat_lt, min, max, find, bit_or}
+use Rattle.std.proofs.Common.{◌≡◌, ◌⊎◌, inl, inr, take, get_or, append-nil, append_assoc, ℕ, suc, ◌+◌, ◌*◌, ◌-◌, ◌%◌, ◌^◌, ◌<◌, ◌≤◌, Bool, true, false, List, [], ◌∷◌, ◌++◌, length, refl, sym, ap, ◌∙◌, subst, arith, length-append, Some, None}
+use Rattle.std.specs.Prelude.{nat_le, min, find, bit_or}
 use Rattle.std.proofs.lemmas.Nat.{or_shifted}
 use Rattle.std.proofs.lemmas.List.{take_more}
 use Rattle.std.specs.List.{range_with_len}

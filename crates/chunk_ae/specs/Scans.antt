@@ -1,5 +1,5 @@
 -- What is known of a chunk while its bytes pass. Positions count from 1.
-use Rattle.std.specs.Prelude.{◌≡◌, ℕ, ◌+◌, ◌<◌, ◌≤◌, Bool, false, List, ◌++◌, length, take, min, max, Some}
+use Rattle.std.specs.Prelude.{◌≡◌, ℕ, ◌+◌, ◌<◌, ◌≤◌, false, List, ◌++◌, length, take, min, max, Some}
 use Rattle.std.specs.List.{AllByRecursion}
 use Rattle.vault_types.specs.declared.Cutting.TheVariants.{Ae}
 use Rattle.vault_types.specs.Cuts.{value_at, ends_at, settled_len}

@@ -2,10 +2,9 @@
 use Rattle.std.specs.Prelude.{◌≡◌, ◌⊎◌, ℕ, Bool, true, not, ◌&&◌, List, filter, Contains, ◌==◌}
 use Rattle.vault_types.specs.declared.Name.{Name}
 use Rattle.vault_types.specs.Lists.{has}
-use Rattle.vault_types.specs.Tables.{Container}
 use Rattle.vault_types.specs.State.{named}
 use Rattle.vault_types.specs.Shelf.{table_name, payload_name}
-use Rattle.vault_types.specs.Events.{Core, Pin, pinned_containers, pins_without}
+use Rattle.vault_types.specs.Events.{Core, Pin, pins_without}
 use Rattle.deletion_laws.specs.Deleting.{pinned_ids}
 
 -- the ids that the pins of this number list

@@ -1,7 +1,7 @@
 -- What the calls of a keeper that run one line ensure: a backup of what a source has left, a
 -- restore to a sink, and a deletion. What the keeper keeps is given: a state, and the change that a
 -- failed write may have made; and the names that it knows as strays.
-use Rattle.std.specs.Prelude.{◌≡◌, ◌≤◌, ◌<◌, ℕ, Bool, true, false, not, IsTrue, List, [], ◌∷◌, length, Option, Some, IfSome, IfOk, IfErr, OnOk, Result, Ok, Err, ◌⊎◌, ◌+◌, ◌*◌, unwrap_or}
+use Rattle.std.specs.Prelude.{◌≡◌, ◌≤◌, ◌<◌, ℕ, Bool, true, false, not, IsTrue, List, [], ◌∷◌, length, Option, IfSome, IfOk, IfErr, OnOk, Result, Ok, Err, ◌⊎◌, ◌+◌, ◌*◌, unwrap_or}
 use Rattle.vault_types.specs.declared.Limits.{Limits}
 use Rattle.vault_types.specs.declared.JobConfig.{JobConfig}
 use Rattle.vault_types.specs.declared.Name.{Name}

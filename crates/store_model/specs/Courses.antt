@@ -1,5 +1,5 @@
 -- What a run of each command is, from its first line on.
-use Rattle.std.specs.Prelude.{◌≡◌, ◌≤◌, ◌+◌, ◌*◌, ◌^◌, ◌&&◌, ◌==◌, ℕ, Bool, true, false, IsTrue, List, [], ◌∷◌, length, unwrap_or, Option, Some, IsSomeAnd, IfSome}
+use Rattle.std.specs.Prelude.{◌≡◌, ◌≤◌, ◌+◌, ◌*◌, ◌^◌, ◌&&◌, ◌==◌, ℕ, Bool, true, false, IsTrue, List, [], ◌∷◌, length, unwrap_or, Option, IsSomeAnd, IfSome}
 use Rattle.vault_types.specs.declared.Limits.{Limits}
 use Rattle.vault_types.specs.declared.JobConfig.{JobConfig}
 use Rattle.vault_types.specs.declared.Kind.TheVariants as kind

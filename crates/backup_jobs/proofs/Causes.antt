@@ -1,11 +1,10 @@
 -- Why a job stops, and what it has when it ends.
-use Rattle.std.proofs.Common.{◌≡◌, inl, inr, ℕ, ◌+◌, ◌*◌, ◌≤◌, List, [], length, Option, Some, None, refl, subst, arith}
+use Rattle.std.proofs.Common.{◌≡◌, ℕ, ◌+◌, ◌*◌, ◌≤◌, List, [], length, Option, Some, None, refl, subst, arith}
 use Rattle.std.specs.Prelude.{Result, Ok, Err, IfOk, IfErr}
 use Rattle.vault_types.specs.declared.Fault.{Fault}
 use Rattle.vault_types.specs.declared.Fault.TheVariants as fault
 use Rattle.vault_types.specs.declared.Recipe.{Recipe}
 use Rattle.vault_types.specs.declared.Answer.{Answer}
-use Rattle.vault_types.specs.Cuts.{cuts}
 use Rattle.vault_traits.specs.Told.{SourceTold, Gives}
 use Rattle.keeper_catalog.specs.View.{View}
 use Rattle.backup_jobs.specs.Backup.{IsBackupFault}

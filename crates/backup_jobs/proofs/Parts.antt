@@ -1,5 +1,5 @@
 -- Decided chunks that a filler takes.
-use Rattle.std.proofs.Common.{◌≡◌, ℕ, suc, ◌+◌, ◌<◌, ◌≤◌, List, [], ◌∷◌, ◌++◌, length, map, Option, Some, None, refl, sym, ap, ◌∙◌, subst, arith, append-nil, length-append}
+use Rattle.std.proofs.Common.{◌≡◌, ℕ, ◌+◌, ◌<◌, ◌≤◌, List, [], ◌∷◌, ◌++◌, length, map, Option, Some, None, refl, sym, ap, ◌∙◌, subst, arith, append-nil, length-append}
 use Rattle.std.specs.Prelude.{option_to_list, Result, Ok, Err, OnOk}
 use Rattle.std.specs.List.{zip}
 use Rattle.std.proofs.lemmas.List.{map-append, length-map}
@@ -7,8 +7,7 @@ use Rattle.vault_types.specs.declared.How.{How}
 use Rattle.vault_types.specs.declared.Fault.{Fault}
 use Rattle.vault_types.specs.Names.{NamedChunk}
 use Rattle.vault_types.specs.Tables.{Container}
-use Rattle.vault_types.specs.Decide.{decide}
-use Rattle.vault_types.specs.Fill.{Filled, fill}
+use Rattle.vault_types.specs.Fill.{fill}
 use Rattle.vault_types.specs.Stages.{decided_parts}
 use Rattle.fp_index.specs.Index.{found_in}
 use Rattle.container_fill.specs.Carried.{carried, AreInTurn}
@@ -16,7 +15,7 @@ use Rattle.container_fill.specs.Filling.{Filling, HasFilled, IsFilledBy, opened}
 use Rattle.backup_pass.proofs.Decisions.{decide_in_turn}
 use Rattle.keeper_catalog.specs.View.{View}
 use Rattle.backup_jobs.specs.declared.closing.Rest.{Rest}
-use Rattle.backup_jobs.specs.Going.{Began, AreNamed, IsUnderway, HasFilledParts, rules_of, chunks_of, made, len_of}
+use Rattle.backup_jobs.specs.Going.{Began, AreNamed, IsUnderway, HasFilledParts, rules_of, chunks_of, len_of}
 use Rattle.backup_jobs.proofs.Jobs.{named_then}
 use Rattle.backup_jobs.proofs.Chunks.{hows, hows_len, chunks_len, fill_few}
 use Rattle.backup_jobs.proofs.Ends.{HasLeft}

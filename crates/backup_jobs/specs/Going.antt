@@ -1,5 +1,5 @@
 -- A backup while it is under way.
-use Rattle.std.specs.Prelude.{◌≡◌, ◌⊎◌, ◌≤◌, ◌<◌, ◌+◌, ◌-◌, ◌*◌, ◌^◌, ℕ, false, nat_lt, if◌then◌else◌, slice_get, unwrap_or, List, [], ◌∷◌, ◌++◌, map, length, sum_by, Contains, Some, None, option_map, IsSome, Result, IfOk, IfErr}
+use Rattle.std.specs.Prelude.{◌≡◌, ◌⊎◌, ◌≤◌, ◌<◌, ◌+◌, ◌-◌, ◌*◌, ◌^◌, ℕ, false, nat_lt, if◌then◌else◌, slice_get, unwrap_or, List, [], ◌∷◌, map, length, sum_by, Contains, Some, None, option_map, IsSome, Result, IfOk, IfErr}
 use Rattle.vault_types.specs.declared.Fp.{Fp}
 use Rattle.vault_types.specs.declared.How.{How}
 use Rattle.vault_types.specs.declared.Name.{Name}

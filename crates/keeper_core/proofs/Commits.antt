@@ -1,12 +1,12 @@
 -- A commit, by where it ends.
-use Rattle.std.proofs.Common.{◌≡◌, inl, inr, ⊎_elim, ℕ, List, None, Some, Option, refl, sym, ◌∙◌, subst}
+use Rattle.std.proofs.Common.{◌≡◌, inl, inr, ℕ, List, None, Some, Option, refl, sym, subst}
 use Rattle.std.specs.Prelude.{Result, Ok, Err, IfSome}
 use Rattle.vault_types.specs.declared.Fp.{Fp}
 use Rattle.vault_types.specs.declared.Fault.{Fault}
 use Rattle.vault_types.specs.declared.Pending.{Pending}
 use Rattle.vault_types.specs.declared.Recipe.{Recipe}
 use Rattle.vault_types.specs.Shelf.{recipe_name}
-use Rattle.vault_types.specs.Events.{Core, Job, CanCommit, commit_change}
+use Rattle.vault_types.specs.Events.{Core, Job, CanCommit}
 use Rattle.vault_traits.specs.declared.names.Refused.{Refused}
 use Rattle.vault_traits.specs.declared.names.Refused.TheVariants.{Memory, Failed}
 use Rattle.vault_traits.specs.Told.{ShelfTold}
@@ -17,7 +17,7 @@ use Rattle.keeper_parts.specs.declared.Halt.TheVariants.{Before, Half}
 use Rattle.keeper_catalog.specs.declared.JobInfo.{JobInfo}
 use Rattle.keeper_catalog.specs.Catalog.{Memo}
 use Rattle.keeper_catalog.specs.View.{View, Keeps, HasCore}
-use Rattle.keeper_jobs.specs.Jobs.{Commits, version_by}
+use Rattle.keeper_jobs.specs.Jobs.{Commits}
 use Rattle.keeper_jobs.specs.Commits.{CommitsRecipe}
 use Rattle.keeper_core.specs.Calls.{due_after}
 use Rattle.keeper_core.specs.Commits.{CommitsJob, halt_fault}

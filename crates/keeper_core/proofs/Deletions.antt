@@ -5,14 +5,13 @@ use Rattle.vault_types.specs.declared.Fp.{Fp}
 use Rattle.vault_types.specs.declared.Fault.{Fault}
 use Rattle.vault_types.specs.declared.Fault.TheVariants as fault
 use Rattle.vault_types.specs.declared.Answer.TheVariants.{Removed}
-use Rattle.vault_types.specs.declared.Pending.TheVariants.{Not, FailedFor}
+use Rattle.vault_types.specs.declared.Pending.TheVariants.{FailedFor}
 use Rattle.vault_types.specs.State.{latest_of}
 use Rattle.vault_types.specs.Shelf.{Blobs}
 use Rattle.vault_types.specs.Events.{Core, IsNear, after_delete, after_mend, after_refused, delete_change}
 use Rattle.vault_traits.specs.Told.{ShelfTold}
 use Rattle.vault_traits.specs.Causes.{IsStoreFault}
 use Rattle.vault_traits.specs.Crash.{LeavesNowIfTold, LeavesOnlyIfTold}
-use Rattle.vault_traits.specs.Counts.{Rose, counted}
 use Rattle.vault_traits.proofs.Moments.{stays, then, more}
 use Rattle.state_laws.proofs.Changing.{version_high}
 use Rattle.state_laws.proofs.Shrinking as shrinking

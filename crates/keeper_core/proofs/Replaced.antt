@@ -1,14 +1,12 @@
 -- A recipe that is put again, by where it ends.
 use Rattle.std.proofs.Common.{◌≡◌, ◌⊎◌, inl, inr, ⊎_elim, ℕ, ◌<◌, ◌≤◌, ◌==◌, length, List, [], Option, Some, None, refl, sym, ◌∙◌, ap, subst, arith}
-use Rattle.std.specs.Prelude.{Result, Ok, Err, IsSome, IfSome, IsTrue, if◌then◌else◌}
+use Rattle.std.specs.Prelude.{Ok, Err, IsSome, IfSome, IsTrue, if◌then◌else◌}
 use Rattle.vault_types.specs.declared.Fault.{Fault}
 use Rattle.vault_types.specs.declared.Fault.TheVariants as fault
 use Rattle.vault_types.specs.declared.Fp.{Fp}
-use Rattle.vault_types.specs.declared.Kind.{Kind}
 use Rattle.vault_types.specs.declared.Pending.{Pending}
 use Rattle.vault_types.specs.declared.Pending.TheVariants.{Not, FailedFor}
 use Rattle.vault_types.specs.declared.Recipe.{Recipe}
-use Rattle.vault_types.specs.declared.Why.{Why}
 use Rattle.vault_types.specs.Names.{fp}
 use Rattle.vault_types.specs.State.{State, KeptVersion, latest_of, version_of, is_kept, recipe_of}
 use Rattle.vault_types.specs.Blobs.{SpellsRecipe, recipe_bytes, recipe_bytes_2}
@@ -33,7 +31,7 @@ use Rattle.keeper_core.proofs.Keeping.{same_keeps}
 use Rattle.keeper_core.proofs.Mendings.{mended_leaves}
 use Rattle.keeper_core.proofs.Removing.{mended_now}
 use Rattle.keeper_core.proofs.Refusing.{shelf_fault}
-use Rattle.keeper_core.proofs.Replacings.{version_there, damage_before, says, of_state, set_is, number_is, spelled, refused_keeps, waits_why, near_wider, others_stay, own_or_second, told_put}
+use Rattle.keeper_core.proofs.Replacings.{version_there, damage_before, says, of_state, spelled, refused_keeps, waits_why, near_wider, others_stay, own_or_second, told_put}
 
 -- which mending is due behind a refusal
 

@@ -1,6 +1,6 @@
 -- What a keeper keeps over a recipe that is put again.
 use Rattle.std.proofs.Common.{◌≡◌, ◌⊎◌, inl, inr, ⊎_elim, ℕ, zero, suc, ◌<◌, ◌≤◌, ◌-◌, ◌&&◌, ◌==◌, true, false, cond, length, List, [], ◌∷◌, Option, Some, None, refl, sym, ◌∙◌, ap, subst, arith}
-use Rattle.std.specs.Prelude.{◌≢◌, Result, Ok, Err, OnErr, IsSome, IfSome, Contains, nat_le, nat_lt, slice_get, if◌then◌else◌}
+use Rattle.std.specs.Prelude.{◌≢◌, IsSome, nat_le, nat_lt, slice_get, if◌then◌else◌}
 use Rattle.std.proofs.lemmas.Bool.Decides.{nat_tests}
 use Rattle.vault_types.specs.declared.Fault.{Fault}
 use Rattle.vault_types.specs.declared.Fault.TheVariants as fault
@@ -16,15 +16,14 @@ use Rattle.vault_types.specs.declared.Why.TheVariants as why
 use Rattle.vault_types.specs.Names.{fp, IsFp}
 use Rattle.vault_types.specs.State.{State, KeptVersion, dataset, floor_of, latest_of, version_of, is_kept, recipe_of, length_of, IsValid}
 use Rattle.vault_types.specs.Blobs.{IsRecipe, SpellsRecipe, recipe_bytes, recipe_bytes_2}
-use Rattle.vault_types.specs.Shelf.{Blobs, recipe_name, floor_name, blob_at, Has}
-use Rattle.vault_types.specs.Events.{Core, Change, IsCore, IsNear, IsChange, Held, pinned_containers, after_mend, after_refused}
+use Rattle.vault_types.specs.Shelf.{Blobs, recipe_name, blob_at, Has}
+use Rattle.vault_types.specs.Events.{Core, Change, IsCore, IsNear, Held, after_refused}
 use Rattle.vault_traits.specs.Told.{ShelfTold}
 use Rattle.vault_traits.specs.Shelf.{blobs_with}
 use Rattle.vault_traits.proofs.Maps.{get_is, other_blob}
 use Rattle.vault_types.specs.BlobDamage.{IsRecipeDamage}
 use Rattle.state_laws.specs.Parts.{HeldIfTold, without_other}
 use Rattle.state_laws.proofs.Changing.{told_more}
-use Rattle.state_laws.proofs.Standing.{needs_floor}
 use Rattle.state_laws.proofs.Growing.{floor_pos}
 use Rattle.keeper_parts.proofs.Telling.{tells_one}
 use Rattle.keeper_catalog.specs.View.{View, Keeps}
@@ -32,13 +31,10 @@ use Rattle.commit_laws.specs.Laws.{SaysVersion}
 use Rattle.commit_laws.proofs.Loading.{held_recipe}
 use Rattle.commit_laws.proofs.Listing.{some_same, none_some}
 use Rattle.commit_laws.proofs.Unique.{kept_rules, kept_number, with_whole, without_whole, plain_of}
-use Rattle.keeper_jobs.specs.Jobs.{Sees}
 use Rattle.keeper_jobs.proofs.Seeing.{not_failed, failed_same}
 use Rattle.vault_types.proofs.SumLemmas.{fp-is_fp}
 use Rattle.recipe_replacement.specs.Replacing.{IsRecipeOf, IsRecipeOfIfTold, waits_after}
-use Rattle.keeper_core.specs.Replacing.{IsRefused}
 use Rattle.keeper_core.proofs.Openings.{says_version}
-use Rattle.keeper_core.proofs.Keeping.{mended}
 
 -- a kept version is there
 

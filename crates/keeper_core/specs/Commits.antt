@@ -23,8 +23,8 @@ halt_fault faults halt.Half = fault.StoreFault faults
 
 -- the commit of a recipe that the open job may commit
 pub record CommitsJob {T : Type 0} (r : Recipe) (u v : View) (result : Result T Fault) : Type 0 where
-  -- where it is done the core has the version; where it is refused the job is over, and where the shelf failed the set may
-  -- have the version
+  -- where it is done the core has the version; where it is refused the job is over, and where the shelf failed the set
+  -- may have the version
   pub ok : OnOk result ((K : Core) (j : Job) → Keeps u K → CanCommit K j r → Keeps v (after_commit (version_by K j r) j v.memo.strays K))
   pub err : IfErr result (λ f. (K : Core) (j : Job) → Keeps u K → CanCommit K j r → IsHalf u v (commit_change (version_by K j r) j r K.state) None f K)
   -- the recipe's blob is its spelling, and each recipe that was kept is as it was

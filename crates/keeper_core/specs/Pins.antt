@@ -17,7 +17,8 @@ pub record PinsVersion (s n : ℕ) (u v : View) (result : Result Pinned Fault) :
   -- over a shelf that tells its blobs the pin has the containers of the version, and what is given is of it
   pub ok : IfOk result (λ p. IsSome u.told.blobs → (K : Core) (k : KeptVersion) → Keeps u K → version_of K.state s n ≡ Some k → Keeps v (after_pin p.no s n k K) × IsPinned K.state k p.length p.spots.items p.whole)
   pub whole : IfOk result (λ p. IsSome u.told.blobs → (K : Core) (k : KeptVersion) → Keeps u K → version_of K.state s n ≡ Some k → IsWholeOf u.told.blobs s n k p.whole)
-  -- over any shelf one pin is added, of containers of the store; its number is new, and it lists the container of each spot
+  -- over any shelf one pin is added, of containers of the store; its number is new, and it lists the container of each
+  -- spot
   pub pinned : IfOk result (λ p. (K : Core) → Keeps u K → (pin : Pin) × (pin.number ≡ p.no) × ((c : Container) → Contains pin.containers c → Contains K.state.containers c) × Keeps v (with_pins (K.pins ++ pin ∷ []) K.strays K))
   pub given : IfOk result (λ p. (ids : List ℕ) × (v.pins ≡ u.pins ++ record { number = p.no; version = n; ids = ids } ∷ []))
   pub fresh : IfOk result (λ p. has p.no (numbers u.pins) ≡ false)

@@ -1,6 +1,6 @@
 -- A deletion's line, from the clauses of the keeper's deletion.
 use Rattle.std.proofs.Common.{◌≡◌, ◌⊎◌, inl, inr, ⊎_elim, ◌≤◌, ◌<◌, ◌+◌, ◌-◌, ◌*◌, ◌^◌, ◌&&◌, ℕ, Bool, true, false, IsTrue, List, [], ◌∷◌, length, Option, Some, None, refl, sym, ◌∙◌, ap, subst, arith}
-use Rattle.std.specs.Prelude.{IsSome, IfSome, IfOk, IfErr, OnOk, OnErr, Result, Ok, Err, Contains, MatchOption, if◌then◌else◌, nat_lt, nat_eq}
+use Rattle.std.specs.Prelude.{IsSome, IfSome, Result, Ok, Err, Contains, MatchOption, if◌then◌else◌, nat_lt, nat_eq}
 use Rattle.std.proofs.lemmas.Bool.Decides.{nat_tests}
 use Rattle.vault_types.specs.declared.Pending.TheVariants as pending
 use Rattle.vault_types.specs.declared.Limits.{Limits}
@@ -16,9 +16,7 @@ use Rattle.vault_types.specs.Events.{Core, Change, Pin, IsNear, after_delete, af
 use Rattle.vault_types.specs.Script.{after, is_refused}
 use Rattle.vault_types.specs.Refusals.{due_refusal, refuses_by_state, IsExact}
 use Rattle.vault_traits.specs.Counts.{Rose}
-use Rattle.vault_traits.specs.Crash.{LeavesNowIfTold, LeavesOnlyIfTold}
-use Rattle.deletion_laws.specs.Deleting.{IsDeleting}
-use Rattle.vault_types.specs.RecipeForms.{KeepsRecipes}
+use Rattle.vault_traits.specs.Crash.{LeavesNowIfTold}
 use Rattle.keeper_catalog.specs.Catalog.{Memo}
 use Rattle.keeper_catalog.specs.View.{View, Keeps, HasCore}
 use Rattle.keeper_core.specs.Calls.{IsHalf, IsStill, IsDeletionFault, IsShelfFault}

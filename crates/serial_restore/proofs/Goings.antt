@@ -9,21 +9,16 @@ use Rattle.vault_types.specs.declared.Fault.{Fault}
 use Rattle.vault_types.specs.declared.Fault.TheVariants as fault
 use Rattle.vault_types.specs.declared.Kind.TheVariants as kind
 use Rattle.vault_types.specs.declared.Why.TheVariants as why
-use Rattle.vault_types.specs.declared.Fp.{Fp}
-use Rattle.vault_types.specs.declared.Name.{Name}
 use Rattle.vault_types.specs.declared.Spot.{Spot}
 use Rattle.vault_types.specs.declared.Whole.{Whole}
 use Rattle.vault_types.specs.Bytes.{bytes_of}
-use Rattle.vault_types.specs.Events.{Core, Pin, IsNear, pin_of, with_pins, after_pin, after_release, containers_of}
+use Rattle.vault_types.specs.Events.{Core, IsNear, pin_of, with_pins, after_pin, containers_of}
 use Rattle.vault_types.specs.Lists.{has}
 use Rattle.vault_types.specs.Plans.{requests}
-use Rattle.vault_types.specs.Shelf.{Blobs, blob_at}
+use Rattle.vault_types.specs.Shelf.{Blobs}
 use Rattle.vault_types.specs.State.{State, KeptVersion, version_of, is_kept, floor_of, latest_of}
-use Rattle.vault_types.specs.Tables.{Container}
-use Rattle.vault_traits.specs.Crash.{LeavesNowIfTold, LeavesOnlyIfTold}
 use Rattle.vault_traits.specs.Told.{SinkTold}
 use Rattle.restore_pins.specs.Pins.{numbers, without_pin}
-use Rattle.deletion_laws.specs.Releasing.{IsReleased}
 use Rattle.vault_traits.specs.Causes.{IsCause}
 use Rattle.keeper_catalog.specs.View.{View, Keeps, HasCore}
 use Rattle.commit_laws.proofs.Listing.{some_same}

@@ -1,4 +1,4 @@
-use Rattle.std.proofs.Common.{rules, inl, inr, ℕ, ◌-◌, ◌&&◌, length, take, map, List, [], ◌∷◌, ◌++◌, Some, None, refl, sym, ◌∙◌, ap, subst, arith, Option}
+use Rattle.std.proofs.Common.{rules, inr, ℕ, ◌-◌, ◌&&◌, length, take, map, List, [], ◌∷◌, ◌++◌, Some, None, refl, sym, ◌∙◌, ap, subst, arith, Option}
 use Rattle.std.specs.Prelude.{Err, nat_le, nat_lt, if◌then◌else◌, slice_index_or, slice_set}
 use Rattle.vault_types.specs.declared.Name.{Name}
 use Rattle.vault_types.specs.declared.Table.{Table}

@@ -1,12 +1,9 @@
-use Rattle.std.proofs.Common.{⊎_elim, arith, ◌+◌, inl, inr, refl, sym, ◌∙◌, subst, Some, None}
+use Rattle.std.proofs.Common.{⊎_elim, arith, ◌+◌, inl, inr, refl, sym, ◌∙◌, subst, None}
 use Rattle.std.specs.Prelude.{Contains}
 use Rattle.vault_types.specs.Delete.{delete}
-use Rattle.vault_types.specs.declared.Pending.TheVariants.{FailedFor}
-use Rattle.vault_types.specs.Events.{Core, IsNear, after_delete, after_refused, delete_change}
-use Rattle.state_laws.specs.Parts.{HeldIfTold}
+use Rattle.vault_types.specs.Events.{IsNear, after_delete}
 use Rattle.keeper_catalog.specs.Catalog.{memo_of}
 use Rattle.keeper_removals.specs.Deletes.{DeletesVersions}
-use Rattle.vault_traits.specs.Crash.{LeavesNowIfTold, LeavesOnlyIfTold}
 use Rattle.vault_traits.proofs.Moments.{ends}
 use Rattle.deletion_laws.proofs.Steps.{told_half, near_deleting, changes, told_stands}
 use Rattle.keeper_removals.proofs.Deleted.{floor_is}

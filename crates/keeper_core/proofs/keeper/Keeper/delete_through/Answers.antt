@@ -1,4 +1,4 @@
-use Rattle.std.proofs.Common.{◌≡◌, ◌∙◌, ◌<◌, sym, ap, subst, arith, length}
+use Rattle.std.proofs.Common.{◌<◌, sym, ap, subst, arith, length}
 use Rattle.std.specs.Prelude.{Ok}
 use Rattle.vault_types.specs.State.{latest_of}
 use Rattle.vault_types.specs.Events.{Core, after_mend}

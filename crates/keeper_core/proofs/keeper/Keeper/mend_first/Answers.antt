@@ -1,4 +1,4 @@
-use Rattle.std.proofs.Common.{sym, subst}
+use Rattle.std.proofs.Common.{subst}
 use Rattle.keeper_catalog.specs.Catalog.{memo_of}
 use Rattle.keeper_catalog.specs.View.{View}
 use Rattle.keeper_core.specs.Stands.{index_of, job_of}

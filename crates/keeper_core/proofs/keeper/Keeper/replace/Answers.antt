@@ -1,4 +1,4 @@
-use Rattle.std.proofs.Common.{◌≡◌, ◌<◌, sym, subst, ap, ◌∙◌, arith}
+use Rattle.std.proofs.Common.{sym, subst, arith}
 use Rattle.std.specs.Prelude.{Ok}
 use Rattle.keeper_catalog.specs.Catalog.{memo_of}
 use Rattle.keeper_catalog.specs.View.{View}

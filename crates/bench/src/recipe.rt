@@ -42,7 +42,7 @@ fn write(rt: HostRuntime, recipe: &Recipe, watch: &mut Watch) -> Result<(u64, Fp
     Ok((took, fingerprint_stage::sum(again.as_slice())))
 }
 
-fn turn(rt: HostRuntime, blob: &[u8]) -> Result<Option<Turn>, Stop> {
+fn one_turn(rt: HostRuntime, blob: &[u8]) -> Result<Option<Turn>, Stop> {
     let mut watch = Watch::start(rt)?;
     let sum = fingerprint_stage::sum(blob);
     let summing = watch.lap(rt);
@@ -78,7 +78,7 @@ fn fastest(rt: HostRuntime, blob: &[u8]) -> Result<Option<Turn>, Stop> {
         is_same: true,
     };
     for _turn in 0..9u32 {
-        match turn(rt, blob)? {
+        match one_turn(rt, blob)? {
             Some(one) => best = faster(best, one),
             None => return Ok(None),
         }

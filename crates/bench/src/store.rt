@@ -105,7 +105,7 @@ struct Times {
     reclaimed: u64,
 }
 
-fn times(rt: HostRuntime, versions: u32, shelf: MemShelf) -> Result<Times, Stop> {
+fn timed(rt: HostRuntime, versions: u32, shelf: MemShelf) -> Result<Times, Stop> {
     let mut watch = Watch::start(rt)?;
     let mut keeper = opened(rt.alloc(), shelf)?;
     let opening = watch.lap(rt);
@@ -125,7 +125,7 @@ fn times(rt: HostRuntime, versions: u32, shelf: MemShelf) -> Result<Times, Stop>
 /// Makes the store, and times its events.
 pub fn time_store(rt: HostRuntime, versions: u32) -> Result<(), Stop> {
     let shelf = store_of(rt.alloc(), versions)?;
-    let times = times(rt, versions, shelf)?;
+    let times = timed(rt, versions, shelf)?;
     let opening = times.opening / 1_000;
     let backup = times.backup / 1_000;
     let deletion = times.deletion / 1_000;

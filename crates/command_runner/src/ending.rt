@@ -141,9 +141,11 @@ pub(crate) fn open_for_one<S: Shelf, K: ShelfStore<S>>(
     ensures opened { IfOk result (λ k. HasOpened (S.told shelf)) }
     ensures same { IfOk result (λ k. IsSameBut (S.told shelf) (K.shelf k.0)) }
     ensures keeps { IfOk result (λ k. (T : State) → Begins (S.told shelf) T → K.keeps k.0 T None) }
-    ensures strays { IfOk result (λ k. (T : State) → Begins (S.told shelf) T → (n : Named) → K.strays k.0 n → StraysOf (S.told shelf) T n) }
+    ensures strays { IfOk result (λ k. (T : State) → Begins (S.told shelf) T → (n : Named) → K.strays k.0 n
+        → StraysOf (S.told shelf) T n) }
     ensures room { IfOk result (λ k. (k.1.items ≡ []) × (vec_len k.1 ≡ 0) × (1 ≤ vec_capacity k.1)) }
-    ensures err { IfErr result (λ e. IsSameBut (S.told shelf) (S.told e.1) × IsStartFault (S.told shelf) (S.told e.1) e.0) }
+    ensures err { IfErr result (λ e. IsSameBut (S.told shelf) (S.told e.1)
+        × IsStartFault (S.told shelf) (S.told e.1) e.0) }
 {
     let store = K::start(alloc, shelf)?;
     match Vec::with_capacity(alloc, 1) {

@@ -54,9 +54,15 @@ fn run_over<S: Shelf, K: ShelfStore<S>, Q: Places>(
     requires ranges { AllByRecursion IsLineInRange lines.now }
     requires limits { AreLimits limits.now }
     ensures opened { IfOk result (λ done. HasOpened (S.told shelf)) }
-    ensures runs { IfOk result (λ done. RunsLines true (Begins (S.told shelf)) (StraysOf (S.told shelf)) limits.now lines.now done.0.items (S.told shelf) (S.told done.1) (Q.told places.old) (Q.told places.new)) }
-    ensures room { IfOk result (λ done. (T : State) (sources : Sources) → Begins (S.told shelf) T → AreFedBy (Q.told places.old).files sources lines.now → IsSome (Q.told places.old).files → NeedRoom Q.room sources T lines.now done.0.items) }
-    ensures err { IfErr result (λ e. IsSameBut (S.told shelf) (S.told e.1) × IsStartFault (S.told shelf) (S.told e.1) e.0) }
+    ensures runs { IfOk result
+        (λ done.
+            RunsLines true (Begins (S.told shelf)) (StraysOf (S.told shelf)) limits.now lines.now done.0.items
+                (S.told shelf) (S.told done.1) (Q.told places.old) (Q.told places.new)) }
+    ensures room { IfOk result (λ done. (T : State) (sources : Sources) → Begins (S.told shelf) T
+        → AreFedBy (Q.told places.old).files sources lines.now → IsSome (Q.told places.old).files
+        → NeedRoom Q.room sources T lines.now done.0.items) }
+    ensures err { IfErr result (λ e. IsSameBut (S.told shelf) (S.told e.1)
+        × IsStartFault (S.told shelf) (S.told e.1) e.0) }
 {
     let store = match K::start(alloc, shelf) {
         Ok(store) => store,

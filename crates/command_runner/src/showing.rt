@@ -52,8 +52,10 @@ fn show<S: Shelf, K: ShelfStore<S>, O: Sink>(
     out: &mut O,
 ) -> Answer
     ensures kind { IsTrue (fits_show set version result) }
-    ensures causes { CausesRise (counts_of_sink (K.shelf store.old) (O.told out.old)) (counts_of_sink (K.shelf store.new) (O.told out.new)) (result ∷ []) }
-    ensures shown { (T : State) → K.keeps store.old T None → IsShown T set version result (O.told out.old) (O.told out.new) }
+    ensures causes { CausesRise (counts_of_sink (K.shelf store.old) (O.told out.old))
+        (counts_of_sink (K.shelf store.new) (O.told out.new)) (result ∷ []) }
+    ensures shown { (T : State) → K.keeps store.old T None
+        → IsShown T set version result (O.told out.old) (O.told out.new) }
     ensures same { IsSameBut (K.shelf store.old) (K.shelf store.new) }
 {
     match store.recipe(alloc, set, version) {

@@ -25,20 +25,29 @@ halt_fault faults halt.Half = fault.StoreFault faults
 pub record CommitsJob {T : Type 0} (r : Recipe) (u v : View) (result : Result T Fault) : Type 0 where
   -- where it is done the core has the version; where it is refused the job is over, and where the shelf failed the set
   -- may have the version
-  pub ok : OnOk result ((K : Core) (j : Job) → Keeps u K → CanCommit K j r → Keeps v (after_commit (version_by K j r) j v.memo.strays K))
-  pub err : IfErr result (λ f. (K : Core) (j : Job) → Keeps u K → CanCommit K j r → IsHalf u v (commit_change (version_by K j r) j r K.state) None f K)
+  pub ok : OnOk result ((K : Core) (j : Job) → Keeps u K → CanCommit K j r
+      → Keeps v (after_commit (version_by K j r) j v.memo.strays K))
+  pub err : IfErr result (λ f. (K : Core) (j : Job) → Keeps u K → CanCommit K j r
+      → IsHalf u v (commit_change (version_by K j r) j r K.state) None f K)
   -- the recipe's blob is its spelling, and each recipe that was kept is as it was
-  pub spelled : OnOk result ((K : Core) (j : Job) → Keeps u K → CanCommit K j r → Has v.told.blobs (recipe_name r.set r.version) (Some (recipe_bytes r)))
-  pub recipes : (K : Core) (j : Job) → Keeps u K → CanCommit K j r → KeepsRecipes K.state u.told.blobs v.told.blobs
+  pub spelled : OnOk result ((K : Core) (j : Job) → Keeps u K → CanCommit K j r
+      → Has v.told.blobs (recipe_name r.set r.version) (Some (recipe_bytes r)))
+  pub recipes : (K : Core) (j : Job) → Keeps u K → CanCommit K j r
+      → KeepsRecipes K.state u.told.blobs v.told.blobs
   -- a crash at any moment leaves the state from before or the one after; where it is done only the one after
-  pub any_moment : (K : Core) (j : Job) → Keeps u K → CanCommit K j r → LeavesNowIfTold u.told.history (IsNear K.state None)
-      → LeavesOnlyIfTold u.told.history v.told.history (IsNear K.state (Some (commit_change (version_by K j r) j r K.state)))
-  pub acknowledged : OnOk result ((K : Core) (j : Job) → Keeps u K → CanCommit K j r → LeavesNowIfTold v.told.history (IsNear (committed (version_by K j r) j K.state) None))
+  pub any_moment : (K : Core) (j : Job) → Keeps u K → CanCommit K j r
+      → LeavesNowIfTold u.told.history (IsNear K.state None)
+      → LeavesOnlyIfTold u.told.history v.told.history
+          (IsNear K.state (Some (commit_change (version_by K j r) j r K.state)))
+  pub acknowledged : OnOk result ((K : Core) (j : Job) → Keeps u K → CanCommit K j r
+      → LeavesNowIfTold v.told.history (IsNear (committed (version_by K j r) j K.state) None))
   pub due : IfErr result (λ f. IsDue f u.job u.pending v.pending)
   -- where it is done the job's names are no strays any more; where it is refused the recipe's name may be one more, if
   -- the shelf failed
-  pub left : OnOk result ((K : Core) (j : Job) → Keeps u K → CanCommit K j r → AreStraysLeft u.memo.strays (recipe_name j.set r.version) j.containers v.memo.strays)
-  pub strays : IfErr result (λ f. (v.memo.strays ≡ u.memo.strays) ⊎ ((v.memo.strays ≡ u.memo.strays ++ recipe_name r.set r.version ∷ []) × IsShelfFault f))
+  pub left : OnOk result ((K : Core) (j : Job) → Keeps u K → CanCommit K j r
+      → AreStraysLeft u.memo.strays (recipe_name j.set r.version) j.containers v.memo.strays)
+  pub strays : IfErr result (λ f. (v.memo.strays ≡ u.memo.strays)
+      ⊎ ((v.memo.strays ≡ u.memo.strays ++ recipe_name r.set r.version ∷ []) × IsShelfFault f))
   -- the pins stay, a shelf that tells its blobs goes on, nothing is got, and each refusal has its cause
   pub tells : IsSome u.told.blobs → IsSome v.told.blobs
   pub pins : v.pins ≡ u.pins

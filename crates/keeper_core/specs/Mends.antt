@@ -17,10 +17,13 @@ pub record MendsFirst {T : Type 0} (u v : View) (result : Result T Fault) : Type
   pub over : OnOk result (v.pending ≡ pending.Not)
   pub waits : OnErr result (v.pending ≡ u.pending)
   -- a crash at any moment leaves what it could leave before; behind a mending that was due and done only the state
-  pub any_moment : (K : Core) → Keeps u K → LeavesNowIfTold u.told.history (IsNear K.state K.other) → LeavesOnlyIfTold u.told.history v.told.history (IsNear K.state K.other)
-  pub acknowledged : OnOk result (u.pending ≢ pending.Not → (K : Core) → Keeps u K → LeavesNowIfTold v.told.history (IsNear K.state None))
+  pub any_moment : (K : Core) → Keeps u K → LeavesNowIfTold u.told.history (IsNear K.state K.other)
+      → LeavesOnlyIfTold u.told.history v.told.history (IsNear K.state K.other)
+  pub acknowledged : OnOk result (u.pending ≢ pending.Not → (K : Core) → Keeps u K
+      → LeavesNowIfTold v.told.history (IsNear K.state None))
   -- the recipes that are kept stay, and so does all in memory
-  pub recipes : (K : Core) → Keeps u K → (s n : ℕ) → n ≤ latest_of K.state s → blob_at v.told.blobs (recipe_name s n) ≡ blob_at u.told.blobs (recipe_name s n)
+  pub recipes : (K : Core) → Keeps u K → (s n : ℕ) → n ≤ latest_of K.state s
+      → blob_at v.told.blobs (recipe_name s n) ≡ blob_at u.told.blobs (recipe_name s n)
   pub memo : v.memo ≡ u.memo
   pub index : v.index ≡ u.index
   pub pins : v.pins ≡ u.pins

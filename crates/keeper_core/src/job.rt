@@ -32,10 +32,13 @@ impl<S: Shelf> Keeper<S> {
     pub fn mend(&mut self) -> Result<(), Fault>
         ensures ok { OnOk result ((K : Core) → Keeps self.old K → Keeps self.new (after_mend K.strays K)) }
         ensures err { OnErr result ((K : Core) → Keeps self.old K → Keeps self.new K) }
-        ensures any_moment { (K : Core) → Keeps self.old K → LeavesNowIfTold self.old.told.history (IsNear K.state K.other)
+        ensures any_moment { (K : Core) → Keeps self.old K
+            → LeavesNowIfTold self.old.told.history (IsNear K.state K.other)
             → LeavesOnlyIfTold self.old.told.history self.new.told.history (IsNear K.state K.other) }
-        ensures acknowledged { OnOk result (self.old.pending ≢ Pending.Not → (K : Core) → Keeps self.old K → LeavesNowIfTold self.new.told.history (IsNear K.state None)) }
-        ensures same { (self.new.memo ≡ self.old.memo) × (self.new.index ≡ self.old.index) × (self.new.pins ≡ self.old.pins) × (self.new.job ≡ self.old.job) }
+        ensures acknowledged { OnOk result (self.old.pending ≢ Pending.Not → (K : Core) → Keeps self.old K
+            → LeavesNowIfTold self.new.told.history (IsNear K.state None)) }
+        ensures same { (self.new.memo ≡ self.old.memo) × (self.new.index ≡ self.old.index)
+            × (self.new.pins ≡ self.old.pins) × (self.new.job ≡ self.old.job) }
         ensures tells { IsSome self.old.told.blobs → IsSome self.new.told.blobs }
         ensures gets { self.new.told.gets ≡ self.old.told.gets }
         ensures causes { HasStoreFault self.old.told.faults self.new.told.faults result }
@@ -55,14 +58,19 @@ impl<S: Shelf> Keeper<S> {
     /// `Err` there is no job.
     pub fn begin(&mut self, alloc: Global, set: Set) -> Result<Begun, Fault>
         requires { self.old.job ≡ None }
-        ensures ok { IfOk result (λ b. (K : Core) → Keeps self.old K → Keeps self.new (after_begin set K.strays K) × IsBegun K.state set b) }
+        ensures ok { IfOk result (λ b. (K : Core) → Keeps self.old K
+            → Keeps self.new (after_begin set K.strays K) × IsBegun K.state set b) }
         ensures lent { IfOk result (λ b. (b.index ≡ self.new.index) × (self.new.index ≡ self.old.index)) }
         ensures core { OnOk result (HasCore self.old) }
-        ensures err { OnErr result (((K : Core) → Keeps self.old K → Keeps self.new K) × (self.new.job ≡ None)) }
-        ensures any_moment { (K : Core) → Keeps self.old K → LeavesNowIfTold self.old.told.history (IsNear K.state K.other)
+        ensures err { OnErr result (((K : Core) → Keeps self.old K → Keeps self.new K)
+            × (self.new.job ≡ None)) }
+        ensures any_moment { (K : Core) → Keeps self.old K
+            → LeavesNowIfTold self.old.told.history (IsNear K.state K.other)
             → LeavesOnlyIfTold self.old.told.history self.new.told.history (IsNear K.state K.other) }
-        ensures acknowledged { IfOk result (λ b. self.old.pending ≢ Pending.Not → (K : Core) → Keeps self.old K → LeavesNowIfTold self.new.told.history (IsNear K.state None)) }
-        ensures recipes { (K : Core) → Keeps self.old K → KeepsRecipes K.state self.old.told.blobs self.new.told.blobs }
+        ensures acknowledged { IfOk result (λ b. self.old.pending ≢ Pending.Not → (K : Core)
+            → Keeps self.old K → LeavesNowIfTold self.new.told.history (IsNear K.state None)) }
+        ensures recipes { (K : Core) → Keeps self.old K
+            → KeepsRecipes K.state self.old.told.blobs self.new.told.blobs }
         ensures tells { IsSome self.old.told.blobs → IsSome self.new.told.blobs }
         ensures pins { self.new.pins ≡ self.old.pins }
         ensures gets { self.new.told.gets ≡ self.old.told.gets }
@@ -94,14 +102,19 @@ impl<S: Shelf> Keeper<S> {
     pub fn put(&mut self, alloc: Global, sealed: Sealed) -> Result<(), Fault>
         requires next { IsSomeAnd self.old.job (λ j. sealed.table.id ≡ j.next) }
         requires low { sealed.table.id + 1 < 2 ^ 64 }
-        ensures ok { OnOk result ((K : Core) → Keeps self.old K → Keeps self.new (after_put sealed self.new.memo.strays K)) }
-        ensures err { OnErr result ((K : Core) → Keeps self.old K → Keeps self.new (after_refused K.other K.job self.new.memo.strays self.new.pending K)) }
-        ensures any_moment { (K : Core) → Keeps self.old K → LeavesNowIfTold self.old.told.history (IsNear K.state K.other)
+        ensures ok { OnOk result ((K : Core) → Keeps self.old K
+            → Keeps self.new (after_put sealed self.new.memo.strays K)) }
+        ensures err { OnErr result ((K : Core) → Keeps self.old K
+            → Keeps self.new (after_refused K.other K.job self.new.memo.strays self.new.pending K)) }
+        ensures any_moment { (K : Core) → Keeps self.old K
+            → LeavesNowIfTold self.old.told.history (IsNear K.state K.other)
             → LeavesOnlyIfTold self.old.told.history self.new.told.history (IsNear K.state K.other) }
-        ensures strays { (self.new.memo.strays ≡ self.old.memo.strays) ⊎ (self.new.memo.strays ≡ self.old.memo.strays ++ names_of sealed.table.id) }
+        ensures strays { (self.new.memo.strays ≡ self.old.memo.strays)
+            ⊎ (self.new.memo.strays ≡ self.old.memo.strays ++ names_of sealed.table.id) }
         ensures due { IfErr result (λ f. IsDue f self.old.job self.old.pending self.new.pending) }
         ensures lent { self.new.index ≡ self.old.index }
-        ensures recipes { (s v : ℕ) → blob_at self.new.told.blobs (recipe_name s v) ≡ blob_at self.old.told.blobs (recipe_name s v) }
+        ensures recipes { (s v : ℕ)
+            → blob_at self.new.told.blobs (recipe_name s v) ≡ blob_at self.old.told.blobs (recipe_name s v) }
         ensures tells { IsSome self.old.told.blobs → IsSome self.new.told.blobs }
         ensures pins { self.new.pins ≡ self.old.pins }
         ensures gets { self.new.told.gets ≡ self.old.told.gets }
@@ -161,7 +174,8 @@ impl<S: Shelf> Keeper<S> {
         requires in_job { IsSome self.old.job }
         ensures aborts { (K : Core) → Keeps self.old K → Keeps self.new (after_abort K) }
         ensures shelf { self.new.told ≡ self.old.told }
-        ensures same { (self.new.memo.strays ≡ self.old.memo.strays) × (self.new.pending ≡ self.old.pending) × (self.new.index ≡ self.old.index) }
+        ensures same { (self.new.memo.strays ≡ self.old.memo.strays) × (self.new.pending ≡ self.old.pending)
+            × (self.new.index ≡ self.old.index) }
         ensures pins { self.new.pins ≡ self.old.pins }
     {
         let job = match &self.stand {

@@ -41,8 +41,10 @@ pub struct Pinned {
 // The place of the first row, from 0, whose container no version names.
 fn first_unnamed(markers: &SetMarkers, rows: &[Row]) -> Option<u32>
     requires { length rows.now < 2 ^ 32 }
-    ensures none { IfNone result ((marks : List Mark) → AreMarkersOfSets markers.now marks → All (λ r. has r.id (marked_ids marks) ≡ true) rows.now) }
-    ensures some { IfSome result (λ i. (marks : List Mark) → AreMarkersOfSets markers.now marks → IsSomeAnd (slice_get rows.now i) (λ r. has r.id (marked_ids marks) ≡ false)) }
+    ensures none { IfNone result ((marks : List Mark) → AreMarkersOfSets markers.now marks
+        → All (λ r. has r.id (marked_ids marks) ≡ true) rows.now) }
+    ensures some { IfSome result (λ i. (marks : List Mark) → AreMarkersOfSets markers.now marks
+        → IsSomeAnd (slice_get rows.now i) (λ r. has r.id (marked_ids marks) ≡ false)) }
 {
     let mut number = 0u32;
     for row in rows {
@@ -58,10 +60,12 @@ fn first_unnamed(markers: &SetMarkers, rows: &[Row]) -> Option<u32>
 fn spots_in(alloc: Global, catalog: &Catalog, rows: &[Row]) -> Result<Vec<Spot>, Unplaced>
     requires few { length rows.now < 2 ^ 32 }
     requires rules { AreRuled (memo_of catalog.now).tables }
-    ensures named { OnOk result ((marks : List Mark) → AreMarkersOfSets (memo_of catalog.now).markers marks → All (λ r. has r.id (marked_ids marks) ≡ true) rows.now) }
+    ensures named { OnOk result ((marks : List Mark) → AreMarkersOfSets (memo_of catalog.now).markers marks
+        → All (λ r. has r.id (marked_ids marks) ≡ true) rows.now) }
     ensures spots { IfOk result (λ spots. spots.items ≡ map (spot_in (memo_of catalog.now).tables) rows.now) }
     ensures placed { OnOk result (AllByRecursion (HasPlace (memo_of catalog.now).tables) rows.now) }
-    ensures bad { (i : ℕ) → result ≡ Err (unplaced.BadRow i) → (marks : List Mark) → AreMarkersOfSets (memo_of catalog.now).markers marks
+    ensures bad { (i : ℕ) → result ≡ Err (unplaced.BadRow i) → (marks : List Mark)
+        → AreMarkersOfSets (memo_of catalog.now).markers marks
         → IsSomeAnd (slice_get rows.now i) (IsUnplaced (memo_of catalog.now).tables marks) }
 {
     if let Some(row) = first_unnamed(&catalog.markers, rows) {
@@ -111,12 +115,20 @@ impl<S: Shelf> Keeper<S> {
     /// it is absent or has another length or SHA-1 than its table says; `Memory`. After an `Err`, too, all is as before.
     pub fn load(&mut self, alloc: Global, no: &PinNo, id: Id) -> Result<Vec<u8>, Fault>
         requires { (K : Core) × (c : Container) × Keeps self.old K × Lists K.pins no.now id c }
-        ensures given { IfOk result (λ bytes. IsSome self.old.told.blobs → (K : Core) (c : Container) → Keeps self.old K → Lists K.pins no.now id c → c.payload ≡ Some bytes.items) }
-        ensures whole { IfOk result (λ bytes. (K : Core) (c : Container) → Keeps self.old K → Lists K.pins no.now id c → IsPayloadOf c.table bytes.items) }
+        ensures given { IfOk result (λ bytes. IsSome self.old.told.blobs → (K : Core) (c : Container)
+            → Keeps self.old K → Lists K.pins no.now id c → c.payload ≡ Some bytes.items) }
+        ensures whole { IfOk result (λ bytes. (K : Core) (c : Container) → Keeps self.old K
+            → Lists K.pins no.now id c → IsPayloadOf c.table bytes.items) }
         ensures keeps { (K : Core) → Keeps self.old K → Keeps self.new K }
-        ensures same { (self.new.memo ≡ self.old.memo) × (self.new.index ≡ self.old.index) × (self.new.pins ≡ self.old.pins) × (self.new.job ≡ self.old.job) × (self.new.pending ≡ self.old.pending) }
-        ensures shelf { (self.new.told.blobs ≡ self.old.told.blobs) × (self.new.told.history ≡ self.old.told.history) × (self.new.told.gets ≡ counted self.old.told.gets) }
-        ensures causes { (K : Core) (c : Container) → Keeps self.old K → Lists K.pins no.now id c → HasCauses self.old.told.faults self.new.told.faults (IsPayloadDamage self.old.told.blobs c.table) result }
+        ensures same { (self.new.memo ≡ self.old.memo) × (self.new.index ≡ self.old.index)
+            × (self.new.pins ≡ self.old.pins) × (self.new.job ≡ self.old.job)
+            × (self.new.pending ≡ self.old.pending) }
+        ensures shelf { (self.new.told.blobs ≡ self.old.told.blobs)
+            × (self.new.told.history ≡ self.old.told.history)
+            × (self.new.told.gets ≡ counted self.old.told.gets) }
+        ensures causes { (K : Core) (c : Container) → Keeps self.old K → Lists K.pins no.now id c
+            → HasCauses self.old.told.faults self.new.told.faults
+                (IsPayloadDamage self.old.told.blobs c.table) result }
     {
         let _no = no;
         match self.catalog.tables.get(&id) {

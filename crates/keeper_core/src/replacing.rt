@@ -34,7 +34,8 @@ impl<S: Shelf> Keeper<S> {
         requires no_job { self.old.job ≡ None }
         requires kept { (K : Core) → Keeps self.old K → IsTrue (is_kept K.state set version) }
         requires sum { IsFp whole }
-        requires whole { IsSome self.old.told.blobs → (K : Core) (k : KeptVersion) → Keeps self.old K → version_of K.state set version ≡ Some k → whole ≡ k.sum }
+        requires whole { IsSome self.old.told.blobs → (K : Core) (k : KeptVersion) → Keeps self.old K
+            → version_of K.state set version ≡ Some k → whole ≡ k.sum }
         ensures { Replaces set version self.old self.new result }
     {
         self.mend_first(set)?;

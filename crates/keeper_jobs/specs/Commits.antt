@@ -22,34 +22,53 @@ use Rattle.keeper_parts.specs.declared.Halt.{Halt}
 use Rattle.keeper_parts.specs.declared.Halt.TheVariants as halt
 use Rattle.keeper_jobs.specs.Jobs.{Commits, version_by}
 
--- the commit of the job's recipe: from the memory m to l, from these entries of the index to the rest, and over a shelf
--- that told this before and tells that now
-pub record CommitsRecipe {T : Type 0} (info : JobInfo) (r : Recipe) (m l : Memo) (entries rest : List (Fp × List ℕ)) (old new : ShelfTold) (result : Result T Halt) : Type 0 where
+-- the commit of the job's recipe: from the memory m to l, from these entries of the index to the
+-- rest, and over a shelf that told this before and tells that now
+pub record CommitsRecipe {T : Type 0} (info : JobInfo) (r : Recipe) (m l : Memo)
+    (entries rest : List (Fp × List ℕ)) (old new : ShelfTold) (result : Result T Halt) : Type 0 where
   -- where it is done the memory, the index and the shelf are those of the core after it
-  pub memo : OnOk result ((K : Core) (j : Job) → Commits m entries info r K j → IsMemoOf l (after_commit (version_by K j r) j l.strays K))
-  pub index : OnOk result ((K : Core) (j : Job) → Commits m entries info r K j → IsIndexOf rest (map (λ c. c.table) (committed (version_by K j r) j K.state).containers))
-  pub held : OnOk result ((K : Core) (j : Job) → Commits m entries info r K j → HeldIfTold old.blobs K → HeldIfTold new.blobs (after_commit (version_by K j r) j l.strays K))
+  pub memo : OnOk result ((K : Core) (j : Job) → Commits m entries info r K j
+      → IsMemoOf l (after_commit (version_by K j r) j l.strays K))
+  pub index : OnOk result ((K : Core) (j : Job) → Commits m entries info r K j
+      → IsIndexOf rest (map (λ c. c.table) (committed (version_by K j r) j K.state).containers))
+  pub held : OnOk result ((K : Core) (j : Job) → Commits m entries info r K j → HeldIfTold old.blobs K
+      → HeldIfTold new.blobs (after_commit (version_by K j r) j l.strays K))
   -- the recipe's blob is its spelling, and no other blob changes
-  pub spelled : OnOk result ((K : Core) (j : Job) → Commits m entries info r K j → Has new.blobs (recipe_name r.set r.version) (Some (recipe_bytes r)))
-  pub others : (K : Core) (j : Job) → Commits m entries info r K j → (q : Name) → q ≢ recipe_name r.set r.version → blob_at new.blobs q ≡ blob_at old.blobs q
+  pub spelled : OnOk result ((K : Core) (j : Job) → Commits m entries info r K j
+      → Has new.blobs (recipe_name r.set r.version) (Some (recipe_bytes r)))
+  pub others : (K : Core) (j : Job) → Commits m entries info r K j → (q : Name)
+      → q ≢ recipe_name r.set r.version → blob_at new.blobs q ≡ blob_at old.blobs q
   -- a refusal leaves the state, and the job is over
-  pub still : OnErr result ((K : Core) (j : Job) (waits : Pending) → Commits m entries info r K j → IsMemoOf l (after_refused None None l.strays waits K))
-  pub same_index : OnErr result ((K : Core) (j : Job) → Commits m entries info r K j → IsIndexOf rest (map (λ c. c.table) K.state.containers))
-  pub half : result ≡ Err halt.Half → (K : Core) (j : Job) → Commits m entries info r K j → HeldIfTold old.blobs K
-      → HeldIfTold new.blobs (after_refused (Some (commit_change (version_by K j r) j r K.state)) None l.strays (pending.FailedFor info.set) K)
-  pub before : (why : Refused) → result ≡ Err (halt.Before why) → (K : Core) (j : Job) (waits : Pending) → Commits m entries info r K j → HeldIfTold old.blobs K → HeldIfTold new.blobs (after_refused None None l.strays waits K)
+  pub still : OnErr result ((K : Core) (j : Job) (waits : Pending) → Commits m entries info r K j
+      → IsMemoOf l (after_refused None None l.strays waits K))
+  pub same_index : OnErr result ((K : Core) (j : Job) → Commits m entries info r K j
+      → IsIndexOf rest (map (λ c. c.table) K.state.containers))
+  pub half : result ≡ Err halt.Half → (K : Core) (j : Job) → Commits m entries info r K j
+      → HeldIfTold old.blobs K
+      → HeldIfTold new.blobs
+          (after_refused (Some (commit_change (version_by K j r) j r K.state)) None l.strays
+              (pending.FailedFor info.set) K)
+  pub before : (why : Refused) → result ≡ Err (halt.Before why) → (K : Core) (j : Job) (waits : Pending)
+      → Commits m entries info r K j → HeldIfTold old.blobs K
+      → HeldIfTold new.blobs (after_refused None None l.strays waits K)
   pub tells : IsSome old.blobs → IsSome new.blobs
   pub room : HasRoom l
   -- the job's names are no strays any more where it is done; the recipe's name is one where its put was tried
-  pub left : OnOk result ((K : Core) (j : Job) → Commits m entries info r K j → AreStraysLeft m.strays (recipe_name j.set r.version) j.containers l.strays)
+  pub left : OnOk result ((K : Core) (j : Job) → Commits m entries info r K j
+      → AreStraysLeft m.strays (recipe_name j.set r.version) j.containers l.strays)
   pub as_before : (why : Refused) → result ≡ Err (halt.Before why) → l.strays ≡ m.strays
   pub tried : result ≡ Err halt.Half → l.strays ≡ m.strays ++ recipe_name r.set r.version ∷ []
   -- a crash at any moment leaves the state from before or the one after; where it is done only the one after, and where
   -- the recipe's put was not tried only the one from before
-  pub any_moment : (K : Core) (j : Job) → Commits m entries info r K j → HeldIfTold old.blobs K → LeavesNowIfTold old.history (IsNear K.state None)
-      → LeavesOnlyIfTold old.history new.history (IsNear K.state (Some (commit_change (version_by K j r) j r K.state)))
-  pub acknowledged : OnOk result ((K : Core) (j : Job) → Commits m entries info r K j → HeldIfTold old.blobs K → LeavesNowIfTold new.history (IsNear (committed (version_by K j r) j K.state) None))
-  pub untried : (why : Refused) → result ≡ Err (halt.Before why) → (K : Core) (j : Job) → Commits m entries info r K j → LeavesNowIfTold old.history (IsNear K.state None) → LeavesOnlyIfTold old.history new.history (IsNear K.state None)
+  pub any_moment : (K : Core) (j : Job) → Commits m entries info r K j → HeldIfTold old.blobs K
+      → LeavesNowIfTold old.history (IsNear K.state None)
+      → LeavesOnlyIfTold old.history new.history
+          (IsNear K.state (Some (commit_change (version_by K j r) j r K.state)))
+  pub acknowledged : OnOk result ((K : Core) (j : Job) → Commits m entries info r K j → HeldIfTold old.blobs K
+      → LeavesNowIfTold new.history (IsNear (committed (version_by K j r) j K.state) None))
+  pub untried : (why : Refused) → result ≡ Err (halt.Before why) → (K : Core) (j : Job)
+      → Commits m entries info r K j → LeavesNowIfTold old.history (IsNear K.state None)
+      → LeavesOnlyIfTold old.history new.history (IsNear K.state None)
   pub gets : new.gets ≡ old.gets
   pub later : old.faults ≤ new.faults
   pub failed_half : result ≡ Err halt.Half → Rose old.faults new.faults

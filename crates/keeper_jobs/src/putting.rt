@@ -23,12 +23,15 @@ fn note_container(alloc: Global, catalog: &mut Catalog, id: Id) -> Result<(), Me
     requires sets { length catalog.old.sets.items ≤ 256 }
     requires room { HasRoom (memo_of catalog.old) }
     requires fresh { table_at catalog.old.tables.entries id ≡ None }
-    ensures strays { (catalog.new.strays.items ≡ catalog.old.strays.items) ⊎ (catalog.new.strays.items ≡ catalog.old.strays.items ++ names_of id) }
+    ensures strays { (catalog.new.strays.items ≡ catalog.old.strays.items)
+        ⊎ (catalog.new.strays.items ≡ catalog.old.strays.items ++ names_of id) }
     ensures noted { OnOk result (catalog.new.strays.items ≡ catalog.old.strays.items ++ names_of id) }
     ensures taken { OnOk result (IsSome (table_at catalog.new.tables.entries id)) }
-    ensures tables { (k : ℕ) → nat_eq k id ≡ false → table_at catalog.new.tables.entries k ≡ table_at catalog.old.tables.entries k }
+    ensures tables { (k : ℕ) → nat_eq k id ≡ false
+        → table_at catalog.new.tables.entries k ≡ table_at catalog.old.tables.entries k }
     ensures none { OnErr result (table_at catalog.new.tables.entries id ≡ None) }
-    ensures same { (catalog.new.sets.items ≡ catalog.old.sets.items) × (catalog.new.markers ≡ catalog.old.markers) }
+    ensures same { (catalog.new.sets.items ≡ catalog.old.sets.items)
+        × (catalog.new.markers ≡ catalog.old.markers) }
     ensures room { HasRoom (memo_of catalog.new) }
 {
     make_room(catalog, 4)?;

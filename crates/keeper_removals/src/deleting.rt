@@ -179,7 +179,8 @@ pub fn delete_versions<S: Shelf>(
 ) -> Result<u64, Fault>
     requires can { (K : Core) × Removing (memo_of catalog.old) index.old pins.now K set through }
     requires room { HasRoom (memo_of catalog.old) }
-    ensures { DeletesVersions set through pins.now (memo_of catalog.old) (memo_of catalog.new) index.old index.new
+    ensures { DeletesVersions set through pins.now (memo_of catalog.old) (memo_of catalog.new) index.old
+        index.new
         (S.told shelf.old) (S.told shelf.new) result }
 {
     let floor = through + 1;

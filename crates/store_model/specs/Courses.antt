@@ -95,7 +95,8 @@ pub record RunsDelete (set through : ℕ) (limits : Limits) (before now : World)
 abbrev pub fits_show : ℕ → ℕ → Answer → Bool
 fits_show s v (Shown t w rows) = (s == t) && (v == w)
 fits_show s v (Refused (fault.NotKept t w floor latest)) = (s == t) && (v == w)
-fits_show s v (Refused (fault.Damaged kind.Recipe number why)) = (number == s * 2 ^ 32 + v) && may_be_unreadable why
+fits_show s v (Refused (fault.Damaged kind.Recipe number why)) =
+    (number == s * 2 ^ 32 + v) && may_be_unreadable why
 fits_show s v (Refused (fault.StoreFault n)) = true
 fits_show s v (Refused (fault.WriteFault n)) = true
 fits_show s v (Refused fault.Memory) = true

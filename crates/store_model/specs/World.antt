@@ -18,7 +18,8 @@ pub record World : Type 0 where
   pub report : SinkTold
 
 abbrev pub world : ShelfTold → PlacesTold → SourceTold → SinkTold → SinkTold → World
-world shelf places input out report = record { shelf = shelf; places = places; input = input; out = out; report = report }
+world shelf places input out report =
+    record { shelf = shelf; places = places; input = input; out = out; report = report }
 
 -- the fault of the first refused answer
 abbrev pub first_fault : List Answer → Option Fault

@@ -21,11 +21,11 @@ ghost use Rattle.backup_jobs.specs.Backup.{BacksUp};
 pub fn backups_are_their_lines()
     ensures line { (u v : View) (set : ℕ) (config : JobConfig) (limits : Limits) (from to : SourceTold)
         (result : Result Answer Fault) → HasCore u → IsCuttable config.cutting
-            → BacksUp set config limits u v from to result
+        → BacksUp set config limits u v from to result
         → (pins : List Pin)
         → BacksUpLine (IsStateWith u pins) (IsStateWith v pins) (IsKnownStray u) (IsKnownStray v)
         limits set config u.told v.told from to result }
     ensures follows { (set : ℕ) (config : JobConfig) (limits : Limits) (u v : View) (from to : SourceTold)
         (result : Result Answer Fault) → BacksUp set config limits u v from to result → (number : ℕ)
-            → Follows u v number }
+        → Follows u v number }
 {}

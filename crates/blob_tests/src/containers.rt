@@ -114,7 +114,10 @@ fn five_faults<S: Shelf>(
     let table = table_fault(alloc, shelf);
     let payload = load_fault(alloc, shelf, sealed);
     let removed = is_removed(shelf);
-    ([first, second, third, table, payload], [removed, is_removed(shelf)])
+    (
+        [first, second, third, table, payload],
+        [removed, is_removed(shelf)],
+    )
 }
 
 // The same over a shelf of which six calls fail, and whether that many are counted and the payload is left.

@@ -31,6 +31,6 @@ IsBuilt other = ⊥
 abbrev pub IsCompleteRun : List (List ℕ) → Limits → World → World → List Answer → Option Fault → Type 0
 IsCompleteRun words limits before now answers f =
     (c : Command) (S : State) → command_of words ≡ Some c → IsBuilt c → CanOpen (Some c) limits before.input
-        → (IsBatch (Some c) → IsSome before.input.left)
+    → (IsBatch (Some c) → IsSome before.input.left)
     → Begins before.shelf S → IsSound S → NoneRose before now
     → (f ≡ None) ⊎ ((answers ≡ []) × (f ≡ Some fault.Memory))

@@ -36,7 +36,7 @@ pub record ReadsRecipe (keeps : Keeping) (old new : ShelfTold) (s v : ℕ)
   pub causes : IfErr result (λ f. CausesRise (counts_of_shelf old) (counts_of_shelf new) (Refused f ∷ []))
   pub says : IfOk result (λ r. (S : State) → keeps S None
       → IsSomeAnd (version_of S s v) (λ k. (length r.rows ≡ length k.rows)
-          × (recipe_text r ≡ recipe_text (recipe_of s v k))))
+      × (recipe_text r ≡ recipe_text (recipe_of s v k))))
   pub refused : IfErr result (λ f. (S : State) → keeps S None → IsUnread S s v f)
 
 -- what comes of writing a recipe's text

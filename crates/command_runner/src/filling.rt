@@ -56,8 +56,8 @@ fn run_over<S: Shelf, K: ShelfStore<S>, Q: Places>(
     ensures opened { IfOk result (λ done. HasOpened (S.told shelf)) }
     ensures runs { IfOk result
         (λ done.
-            RunsLines true (Begins (S.told shelf)) (StraysOf (S.told shelf)) limits.now lines.now done.0.items
-                (S.told shelf) (S.told done.1) (Q.told places.old) (Q.told places.new)) }
+        RunsLines true (Begins (S.told shelf)) (StraysOf (S.told shelf)) limits.now lines.now done.0.items
+        (S.told shelf) (S.told done.1) (Q.told places.old) (Q.told places.new)) }
     ensures room { IfOk result (λ done. (T : State) (sources : Sources) → Begins (S.told shelf) T
         → AreFedBy (Q.told places.old).files sources lines.now → IsSome (Q.told places.old).files
         → NeedRoom Q.room sources T lines.now done.0.items) }

@@ -76,7 +76,7 @@ pub(crate) fn print_filled<O: Sink>(
 ) -> Option<Fault>
     ensures { IsPrinted
         (report_text answers.now
-            ++ outputs_text (file_at places.now.seed places.now.places) lines.now answers.now)
+        ++ outputs_text (file_at places.now.seed places.now.places) lines.now answers.now)
         (O.told out.old) (O.told out.new) result }
 {
     match print_all(answers, out) {

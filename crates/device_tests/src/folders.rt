@@ -263,7 +263,13 @@ fn two_wait<R: Files, S: Shelf>(alloc: Global, files: &R, shelf: &mut S) -> [boo
     let waits = have_files(files, &WAITING[..1], true);
     let new = puts(alloc, shelf, PAYLOAD, b"new");
     let table = puts(alloc, shelf, TABLE, b"rows");
-    [old, waits, new, table, have_files(files, &NAMED[2..], false)]
+    [
+        old,
+        waits,
+        new,
+        table,
+        have_files(files, &NAMED[2..], false),
+    ]
 }
 
 // Whether the payload is given, more are put, and all is settled with no fault.

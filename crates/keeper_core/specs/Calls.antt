@@ -63,7 +63,7 @@ pub record IsHalf (u v : View) (h : Change) (job : Option Job) (f : Fault) (K : 
   pub half : (other ≡ None) ⊎ ((other ≡ Some h) × IsShelfFault f)
   pub any_moment : LeavesNowIfTold u.told.history (IsNear K.state K.other)
       → LeavesOnlyIfTold u.told.history v.told.history (λ c. IsNear K.state K.other c
-          ⊎ IsNear K.state other c)
+      ⊎ IsNear K.state other c)
   pub behind : LeavesNowIfTold u.told.history (IsNear K.state K.other)
       → LeavesNowIfTold v.told.history (IsNear K.state other)
 
@@ -120,7 +120,7 @@ unplaced_fault s v (unplaced.BadRow i) = fault.Damaged kind.Recipe (recipe_name 
 abbrev pub IsBadRow : Option Blobs → State → ℕ → ℕ → ℕ → Type 0
 IsBadRow told S s v i =
     IsSome told → (k : KeptVersion) → version_of S s v ≡ Some k
-        → IsSomeAnd (slice_get k.rows i) (λ r. HasRow S.containers r → ⊥)
+    → IsSomeAnd (slice_get k.rows i) (λ r. HasRow S.containers r → ⊥)
 
 -- what the shelf's answer shows where a version can't be pinned
 abbrev pub IsPinDamage : Option Blobs → State → ℕ → ℕ → Kind → ℕ → Why → Type 0

@@ -38,7 +38,7 @@ pub record CommitsJob {T : Type 0} (r : Recipe) (u v : View) (result : Result T 
   pub any_moment : (K : Core) (j : Job) → Keeps u K → CanCommit K j r
       → LeavesNowIfTold u.told.history (IsNear K.state None)
       → LeavesOnlyIfTold u.told.history v.told.history
-          (IsNear K.state (Some (commit_change (version_by K j r) j r K.state)))
+      (IsNear K.state (Some (commit_change (version_by K j r) j r K.state)))
   pub acknowledged : OnOk result ((K : Core) (j : Job) → Keeps u K → CanCommit K j r
       → LeavesNowIfTold v.told.history (IsNear (committed (version_by K j r) j K.state) None))
   pub due : IfErr result (λ f. IsDue f u.job u.pending v.pending)

@@ -41,7 +41,7 @@ pub record DeletesThrough (s n : ℕ) (u v : View) (result : Result Answer Fault
   -- done only the one behind it, whatever could be left before where a mending was due. No refusal ends a mending
   pub any_moment : (K : Core) → Keeps u K → LeavesNowIfTold u.told.history (IsNear K.state K.other)
       → LeavesOnlyIfTold u.told.history v.told.history (λ c. IsNear K.state K.other c
-          ⊎ IsDeleting K.state s n c)
+      ⊎ IsDeleting K.state s n c)
   pub acknowledged : OnOk result ((K : Core) → Keeps u K
       → (u.pending ≡ pending.Not → LeavesNowIfTold u.told.history (IsNear K.state K.other))
       → LeavesNowIfTold v.told.history (IsNear (delete K.state s n) None))

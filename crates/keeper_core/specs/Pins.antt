@@ -24,8 +24,8 @@ pub record PinsVersion (s n : ℕ) (u v : View) (result : Result Pinned Fault) :
   -- spot
   pub pinned : IfOk result (λ p. (K : Core) → Keeps u K
       → (pin : Pin) × (pin.number ≡ p.no)
-          × ((c : Container) → Contains pin.containers c → Contains K.state.containers c)
-          × Keeps v (with_pins (K.pins ++ pin ∷ []) K.strays K))
+      × ((c : Container) → Contains pin.containers c → Contains K.state.containers c)
+      × Keeps v (with_pins (K.pins ++ pin ∷ []) K.strays K))
   pub given : IfOk result (λ p. (ids : List ℕ)
       × (v.pins ≡ u.pins ++ record { number = p.no; version = n; ids = ids } ∷ []))
   pub fresh : IfOk result (λ p. has p.no (numbers u.pins) ≡ false)

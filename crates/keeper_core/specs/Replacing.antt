@@ -17,7 +17,7 @@ use Rattle.keeper_catalog.specs.View.{View, Keeps}
 abbrev pub IsRefused : View → Core → Type 0
 IsRefused v K =
     (other : Option Change) × Keeps v (after_refused other K.job K.strays v.pending K)
-        × ((other ≡ None) ⊎ (other ≡ K.other))
+    × ((other ≡ None) ⊎ (other ≡ K.other))
 
 -- whether a mending is due then: what was due still is, where the mending failed; nothing is, where
 -- a read was refused or there was no memory; or one for the set, where a write failed
@@ -39,7 +39,7 @@ pub record Replaces {T : Type 0} (s n : ℕ) (u v : View) (result : Result T Fau
       → blob_at v.told.blobs (recipe_name t m) ≡ blob_at u.told.blobs (recipe_name t m)
   pub own : (K : Core) (k : KeptVersion) → Keeps u K → version_of K.state s n ≡ Some k
       → (blob_at v.told.blobs (recipe_name s n) ≡ blob_at u.told.blobs (recipe_name s n))
-          ⊎ (blob_at v.told.blobs (recipe_name s n) ≡ Some (recipe_bytes_2 k.sum (recipe_of s n k)))
+      ⊎ (blob_at v.told.blobs (recipe_name s n) ≡ Some (recipe_bytes_2 k.sum (recipe_of s n k)))
   pub tells : IsSome u.told.blobs → IsSome v.told.blobs
   -- a crash at any moment leaves what it could leave before; where it is done only the state, and so where no mending
   -- is due behind the call

@@ -42,13 +42,25 @@ impl<S: Shelf> Model for Keeper<S> {
     ghost coded = { Prim.hlevel (codes, coded_blobs, coded_history) };
 
     ghost view = { λ k.
-        record { told = S.told k.shelf; memo = memo_of k.catalog; index = index_of k.stand; pins = k.pins;
-            job = job_of k.stand; pending = k.pending } };
+        record {
+          told = S.told k.shelf;
+          memo = memo_of k.catalog;
+          index = index_of k.stand;
+          pins = k.pins;
+          job = job_of k.stand;
+          pending = k.pending;
+        } };
 
     ghost invariant = { λ k.
-            HasCore
-                (record { told = S.told k.shelf; memo = memo_of k.catalog; index = index_of k.stand;
-                    pins = k.pins; job = job_of k.stand; pending = k.pending })
+        HasCore
+        (record {
+          told = S.told k.shelf;
+          memo = memo_of k.catalog;
+          index = index_of k.stand;
+          pins = k.pins;
+          job = job_of k.stand;
+          pending = k.pending;
+        })
         × HasRoom (memo_of k.catalog) };
 }
 

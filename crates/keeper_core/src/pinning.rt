@@ -128,7 +128,7 @@ impl<S: Shelf> Keeper<S> {
             × (self.new.told.gets ≡ counted self.old.told.gets) }
         ensures causes { (K : Core) (c : Container) → Keeps self.old K → Lists K.pins no.now id c
             → HasCauses self.old.told.faults self.new.told.faults
-                (IsPayloadDamage self.old.told.blobs c.table) result }
+            (IsPayloadDamage self.old.told.blobs c.table) result }
     {
         let _no = no;
         match self.catalog.tables.get(&id) {

@@ -29,12 +29,12 @@ impl<S: Shelf> Keeper<S> {
             × Keeps k (opened_core T k.memo.strays)) }
         ensures each { IfOk result
             (λ k.
-                IfSome (S.told shelf).blobs (λ m. (T : State) → Stands m T → IsValid T
-                    → Keeps k (opened_core T k.memo.strays))) }
+            IfSome (S.told shelf).blobs (λ m. (T : State) → Stands m T → IsValid T
+            → Keeps k (opened_core T k.memo.strays))) }
         ensures strays { IfOk result
             (λ k.
-                IfSome (S.told shelf).blobs (λ m. (n : Named) → Contains k.memo.strays n
-                    → IsSome (fin.get m n))) }
+            IfSome (S.told shelf).blobs (λ m. (n : Named) → Contains k.memo.strays n
+            → IsSome (fin.get m n))) }
         ensures shelf { IfOk result (λ k. (k.told.blobs ≡ (S.told shelf).blobs)
             × (k.told.history ≡ (S.told shelf).history) × (k.told.gets ≡ (S.told shelf).gets)) }
         ensures fresh { IfOk result (λ k. (k.job ≡ None) × (k.pins ≡ []) × (k.pending ≡ Pending.Opened)) }

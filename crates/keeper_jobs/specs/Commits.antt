@@ -46,8 +46,8 @@ pub record CommitsRecipe {T : Type 0} (info : JobInfo) (r : Recipe) (m l : Memo)
   pub half : result ≡ Err halt.Half → (K : Core) (j : Job) → Commits m entries info r K j
       → HeldIfTold old.blobs K
       → HeldIfTold new.blobs
-          (after_refused (Some (commit_change (version_by K j r) j r K.state)) None l.strays
-              (pending.FailedFor info.set) K)
+      (after_refused (Some (commit_change (version_by K j r) j r K.state)) None l.strays
+      (pending.FailedFor info.set) K)
   pub before : (why : Refused) → result ≡ Err (halt.Before why) → (K : Core) (j : Job) (waits : Pending)
       → Commits m entries info r K j → HeldIfTold old.blobs K
       → HeldIfTold new.blobs (after_refused None None l.strays waits K)
@@ -63,7 +63,7 @@ pub record CommitsRecipe {T : Type 0} (info : JobInfo) (r : Recipe) (m l : Memo)
   pub any_moment : (K : Core) (j : Job) → Commits m entries info r K j → HeldIfTold old.blobs K
       → LeavesNowIfTold old.history (IsNear K.state None)
       → LeavesOnlyIfTold old.history new.history
-          (IsNear K.state (Some (commit_change (version_by K j r) j r K.state)))
+      (IsNear K.state (Some (commit_change (version_by K j r) j r K.state)))
   pub acknowledged : OnOk result ((K : Core) (j : Job) → Commits m entries info r K j → HeldIfTold old.blobs K
       → LeavesNowIfTold new.history (IsNear (committed (version_by K j r) j K.state) None))
   pub untried : (why : Refused) → result ≡ Err (halt.Before why) → (K : Core) (j : Job)

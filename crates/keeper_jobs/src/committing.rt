@@ -32,12 +32,12 @@ fn take_back(catalog: &mut Catalog, index: &mut Index, job: JobInfo)
     requires keyed { AreKeyed catalog.old.tables.entries }
     ensures index { (known : List TableOf) → AllByRecursion (λ t. t.id < job.first) known
         → IsIndexOf index.old
-            (known ++ tables_from catalog.old.tables.entries job.first (job.next - job.first))
+        (known ++ tables_from catalog.old.tables.entries job.first (job.next - job.first))
         → IsIndexOf index.new known }
     ensures gone { (id : ℕ)
         → table_at catalog.new.tables.entries id
-            ≡ (if nat_le job.first id && nat_lt id job.next then None
-                else table_at catalog.old.tables.entries id) }
+        ≡ (if nat_le job.first id && nat_lt id job.next then None
+        else table_at catalog.old.tables.entries id) }
     ensures fewer { length catalog.new.tables.entries ≤ length catalog.old.tables.entries }
     ensures same { (catalog.new.sets ≡ catalog.old.sets) × (catalog.new.markers ≡ catalog.old.markers)
         × (catalog.new.strays ≡ catalog.old.strays) × (catalog.new.freed ≡ catalog.old.freed) }

@@ -84,7 +84,7 @@ pub fn forget_tables(tables: &mut BTreeMap<Id, Table>, first: Id, next: Id)
     requires range { first ≤ next }
     ensures gone { (id : ℕ)
         → table_at tables.new.entries id
-            ≡ (if nat_le first id && nat_lt id next then None else table_at tables.old.entries id) }
+        ≡ (if nat_le first id && nat_lt id next then None else table_at tables.old.entries id) }
     ensures fewer { length tables.new.entries ≤ length tables.old.entries }
 {
     for id in first..next {

@@ -41,7 +41,7 @@ pub fn mend_for<S: Shelf>(
     ensures tells { IsSome (S.told shelf.old).blobs → IsSome (S.told shelf.new).blobs }
     ensures recipes { (K : Core) → Sees sets.now pending.old K → (s v : ℕ) → v ≤ latest_of K.state s
         → blob_at (S.told shelf.new).blobs (recipe_name s v)
-            ≡ blob_at (S.told shelf.old).blobs (recipe_name s v) }
+        ≡ blob_at (S.told shelf.old).blobs (recipe_name s v) }
 
     // A crash at any moment leaves what it could leave before; behind a mending that was due and succeeded only the state.
     ensures any_moment { (K : Core) → Sees sets.now pending.old K

@@ -52,8 +52,8 @@ pub fn prepare(
     ensures blob { IfOk result (λ r. r.1.items ≡ recipe_bytes recipe.now) }
     ensures strays { IfOk result
         (λ _.
-            catalog.new.strays.items
-                ≡ catalog.old.strays.items ++ recipe_name recipe.now.set recipe.now.version ∷ []) }
+        catalog.new.strays.items
+        ≡ catalog.old.strays.items ++ recipe_name recipe.now.set recipe.now.version ∷ []) }
     ensures same { (catalog.new.sets.items ≡ catalog.old.sets.items)
         × (catalog.new.tables.entries ≡ catalog.old.tables.entries) }
     ensures markers { (marks : List Mark) → AreMarkersOfSets catalog.old.markers marks
@@ -65,7 +65,7 @@ pub fn prepare(
     ensures as_before { OnErr result (catalog.new.strays.items ≡ catalog.old.strays.items) }
     ensures added { IfOk result (λ _. (known : List TableOf) → IsIndexOf index.old known
         → IsIndexOf index.new
-            (known ++ tables_from catalog.old.tables.entries job.first (job.next - job.first))) }
+        (known ++ tables_from catalog.old.tables.entries job.first (job.next - job.first))) }
     ensures unchanged { OnErr result ((known : List TableOf) → AllByRecursion (λ t. t.id < job.first) known
         → IsIndexOf index.old known → IsIndexOf index.new known) }
 {
@@ -112,8 +112,12 @@ pub fn note_commit(catalog: &mut Catalog, job: JobInfo, recipe: Recipe, ids: &[I
     requires places { length ids.now ≤ catalog.old.markers.room }
     ensures sets { catalog.new.sets.items
         ≡ slice_set catalog.old.sets.items job.set
-            (record { floor = (slice_index_or catalog.old.sets.items job.set (set_info empty_dataset)).floor;
-                latest = recipe.version; next = recipe.next; sparse = recipe.sparse }) }
+        (record {
+          floor = (slice_index_or catalog.old.sets.items job.set (set_info empty_dataset)).floor;
+          latest = recipe.version;
+          next = recipe.next;
+          sparse = recipe.sparse;
+        }) }
     ensures strays { catalog.new.strays.items
         ≡ uncommitted (recipe_name job.set recipe.version) job.first job.next catalog.old.strays.items }
     ensures markers { (marks : List Mark) → AreMarkersOfSets catalog.old.markers marks

@@ -23,8 +23,8 @@ pub fn make_room(catalog: &mut Catalog, more: usize) -> Result<(), Memory>
     requires { length catalog.old.sets.items ≤ 256 }
     ensures made { OnOk result
         (length catalog.new.strays.items
-                + (2 * length catalog.new.tables.entries + versions_in catalog.new.sets.items) + more
-            ≤ vec_capacity catalog.new.strays) }
+        + (2 * length catalog.new.tables.entries + versions_in catalog.new.sets.items) + more
+        ≤ vec_capacity catalog.new.strays) }
     ensures same { memo_of catalog.new
         ≡ record (memo_of catalog.old) { room = vec_capacity catalog.new.strays } }
     ensures room { vec_capacity catalog.old.strays ≤ vec_capacity catalog.new.strays }

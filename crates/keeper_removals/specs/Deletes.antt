@@ -36,7 +36,7 @@ pub record DeletesVersions (s n : ℕ) (pins : List Listed) (m l : Memo) (entrie
   pub as_before : OnErr result ((l ≡ m) × (rest ≡ entries))
   pub half : OnErr result ((K : Core) → Removing m entries pins K s n → HeldIfTold before.blobs K
       → HeldIfTold now.blobs
-          (after_refused (Some (delete_change s n K.state)) None K.strays (pending.FailedFor s) K))
+      (after_refused (Some (delete_change s n K.state)) None K.strays (pending.FailedFor s) K))
   -- each recipe that is kept behind it is as it was; a refusal leaves all
   pub recipes : OnOk result (IsSome before.blobs → (K : Core) → Removing m entries pins K s n
       → HeldIfTold before.blobs K → KeepsRecipes (delete K.state s n) before.blobs now.blobs)

@@ -7,9 +7,7 @@ use vault_types::{Fp, Id, Memory, Table, TableRow};
 
 fn numbered(number: u64) -> Fp {
     let [a, b, c, d, e, f, g, h] = number.to_be_bytes();
-    Fp([
-        a, b, c, d, e, f, g, h, 0, 0, 0, 0, 0, 0, 0, 0, 0, 0, 0, 0,
-    ])
+    Fp([a, b, c, d, e, f, g, h, 0, 0, 0, 0, 0, 0, 0, 0, 0, 0, 0, 0])
 }
 
 fn table(alloc: Global, id: Id, numbers: &[u64]) -> Result<Table, Memory> {

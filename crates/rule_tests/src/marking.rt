@@ -41,9 +41,7 @@ fn named(markers: &Markers) -> (usize, [bool; 2]) {
 }
 
 // What is named before and behind a floor of version 2, and whether that takes container 1.
-fn behind_floor(
-    alloc: Global,
-) -> Result<((usize, [bool; 2]), bool, (usize, [bool; 2])), Memory> {
+fn behind_floor(alloc: Global) -> Result<((usize, [bool; 2]), bool, (usize, [bool; 2])), Memory> {
     let mut markers = committed(alloc, &[(1, &[1, 2]), (2, &[2, 3])])?;
     let before = named(&markers);
     let takes = takes(alloc, &mut markers, &(2, &[], &[1]))?;
@@ -66,7 +64,11 @@ fn floors_take(
     take_each(alloc, &mut markers, floors)
 }
 
-const FLOORS: &[Floor] = &[(5, &[99], &[99, 7, 30]), (5, &[], &[]), (6, &[], &[3, 12, 40])];
+const FLOORS: &[Floor] = &[
+    (5, &[99], &[99, 7, 30]),
+    (5, &[], &[]),
+    (6, &[], &[3, 12, 40]),
+];
 
 #[test]
 fn ids_are_appended_in_ascending_order(rt: HostRuntime) -> Result<(), Fail> {

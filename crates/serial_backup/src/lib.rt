@@ -12,9 +12,8 @@ ghost use Rattle.backup_jobs.specs.Backup.{BacksUp};
 ghost use Rattle.backup_jobs.specs.Going.{Began, IsOver};
 ghost use Rattle.serial_backup.specs.Streaming.{IsGoing};
 
-pub use crate::line::backup_line;
-
 use crate::ending::end_pass;
+pub use crate::line::backup_line;
 use crate::reading::read_all;
 use backup_jobs::{Ended, Opened, close_job, open_job};
 use backup_pass::Pass;

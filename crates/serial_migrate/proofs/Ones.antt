@@ -1,7 +1,6 @@
 -- One version: its restore, the put of its recipe, and what both come to.
-use Rattle.std.proofs.Common.{◌≡◌, ◌⊎◌, inl, inr, ⊎_elim, ℕ, ◌+◌, ◌≤◌, ◌<◌, true, false, IsTrue, length, map, List, [], ◌∷◌, ◌++◌, Option, Some, None, refl, sym, ap, subst, ◌∙◌, arith}
-use Rattle.std.specs.Prelude.{◌≢◌, IsSome, IfSome, IfOk, IfErr, OnOk, OnErr, Result, Ok, Err, Contains, is_some}
-use Rattle.std.specs.FinMap as fin
+use Rattle.std.proofs.Common.{◌≡◌, ◌⊎◌, inl, inr, ⊎_elim, ℕ, ◌≤◌, ◌<◌, true, false, IsTrue, length, map, List, [], ◌∷◌, ◌++◌, Option, Some, None, refl, sym, ap, subst, ◌∙◌, arith}
+use Rattle.std.specs.Prelude.{IsSome, IfSome, IfOk, IfErr, OnOk, OnErr, Result, Ok, Err, Contains, is_some}
 use Rattle.std.specs.Option.{option_map, option_map_or}
 use Rattle.vault_types.specs.declared.Answer.{Answer}
 use Rattle.vault_types.specs.declared.Answer.TheVariants.{Refused}
@@ -37,7 +36,6 @@ use Rattle.keeper_core.proofs.Replacings.{version_there, near_wider}
 use Rattle.store_model.specs.Complete.{is_counted}
 use Rattle.vault_types.specs.RecipeForms.{IsSecond}
 use Rattle.store_model.specs.Migrating.{IsInFirstFormat, HaveFirst, ShowsKeptDamage}
-use Rattle.vault_types.specs.declared.Pending.TheVariants as pending
 use Rattle.keeper_core.specs.Keeping.{IsStateOf}
 use Rattle.keeper_core.proofs.BetweenLines.{changed_of, images_of}
 use Rattle.serial_restore.specs.Restoring.{IsRestoreFault, HasStayed, IsRestored, IsCut, WhereTold}

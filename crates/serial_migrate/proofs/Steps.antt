@@ -4,7 +4,6 @@ use Rattle.std.specs.Prelude.{◌≢◌, ◌&&◌, IsErrAnd, IfErr, Result, Ok, 
 use Rattle.std.proofs.lemmas.Bool.Decides.{nat_tests}
 use Rattle.std.proofs.lemmas.List.{append-nil}
 use Rattle.vault_types.specs.declared.Fault.{Fault}
-use Rattle.vault_types.specs.declared.Fault.TheVariants as fault
 use Rattle.vault_types.specs.State.{State, KeptVersion, dataset, floor_of, latest_of, is_kept, version_of, IsValid}
 use Rattle.vault_types.specs.Shelf.{Blobs, blob_at, recipe_name}
 use Rattle.vault_types.specs.Events.{Core, Change, IsNear}

@@ -1,4 +1,4 @@
-use Rattle.std.proofs.Common.{◌≡◌, ◌+◌, ℕ, Bool, true, false, cond, Option, sym, ap, subst, ◌∙◌, arith}
+use Rattle.std.proofs.Common.{◌≡◌, ◌+◌, ℕ, Bool, cond, Option, sym, ap, subst, ◌∙◌, arith}
 use Rattle.vault_types.specs.declared.Fault.{Fault}
 use Rattle.vault_types.specs.State.{State}
 use Rattle.vault_types.specs.Events.{Change}

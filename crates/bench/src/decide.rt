@@ -47,12 +47,7 @@ pub fn growth(rt: HostRuntime) -> Result<(), Stop> {
 
 fn decider_of(alloc: Global, containers: u64) -> Result<Decider, Stop> {
     let index = index_of(alloc, containers, 100)?;
-    Ok(Decider::new(
-        alloc,
-        index,
-        Vec::new(alloc),
-        JobConfig::standard(),
-    ))
+    Ok(Decider::new(alloc, index, Vec::new(alloc), JobConfig::standard()))
 }
 
 // A thousand chunks.

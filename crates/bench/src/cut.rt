@@ -27,6 +27,9 @@ fn next_piece(
     chunker: &mut Ae,
     watch: &mut Watch,
 ) -> Result<Pieces, Stop> {
+    if room.is_empty() {
+        return Err(Stop::Refused);
+    }
     let n = source.read(room)?;
     let _reading = watch.lap(rt);
     let chunks = feed(rt.alloc(), chunker, &room[..n])?;

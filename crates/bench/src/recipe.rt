@@ -3,9 +3,7 @@
 use crate::watch::{Stop, Watch, rate};
 use folder_shelf::InSource;
 use recipe_form2::{decode2, encode2};
-use std::alloc::Global;
 use vault_traits::Source;
-use vault_types::{Fp, Recipe};
 
 // The nanoseconds of the sum of a blob, of reading it and of writing it, and whether the same bytes were written.
 #[derive(Clone, Copy)]
@@ -18,6 +16,9 @@ struct Turn {
 
 // Adds a piece of a source to a blob, and gives its length.
 fn add_piece(source: &mut InSource, room: &mut [u8], blob: &mut Vec<u8>) -> Result<usize, Stop> {
+    if room.is_empty() {
+        return Err(Stop::Refused);
+    }
     let n = source.read(room)?;
     blob.extend_from_slice(&room[..n])?;
     Ok(n)
@@ -35,13 +36,7 @@ fn blob_of(rt: HostRuntime) -> Result<Vec<u8>, Stop> {
     Ok(blob)
 }
 
-// Writes a recipe: the nanoseconds, and the sum of the bytes.
-fn write(rt: HostRuntime, recipe: &Recipe, watch: &mut Watch) -> Result<(u64, Fp), Stop> {
-    let again = encode2(rt.alloc(), recipe)?;
-    let took = watch.lap(rt);
-    Ok((took, fingerprint_stage::sum(again.as_slice())))
-}
-
+// None where the blob is no recipe of version 1.
 fn one_turn(rt: HostRuntime, blob: &[u8]) -> Result<Option<Turn>, Stop> {
     let mut watch = Watch::start(rt)?;
     let sum = fingerprint_stage::sum(blob);
@@ -50,13 +45,14 @@ fn one_turn(rt: HostRuntime, blob: &[u8]) -> Result<Option<Turn>, Stop> {
         return Ok(None);
     };
     let reading = watch.lap(rt);
-    let (writing, written) = write(rt, &recipe, &mut watch)?;
+    let again = encode2(rt.alloc(), &recipe)?;
+    let writing = watch.lap(rt);
     watch.end()?;
     Ok(Some(Turn {
         summing,
         reading,
         writing,
-        is_same: written == sum,
+        is_same: fingerprint_stage::sum(again.as_slice()) == sum,
     }))
 }
 
@@ -69,7 +65,6 @@ fn faster(one: Turn, other: Turn) -> Turn {
     }
 }
 
-// None where the blob is no recipe of version 1.
 fn fastest(rt: HostRuntime, blob: &[u8]) -> Result<Option<Turn>, Stop> {
     let mut best = Turn {
         summing: u64::MAX,

@@ -49,11 +49,7 @@ fn opened(alloc: Global, shelf: MemShelf) -> Result<Keeper<MemShelf>, Stop>
 
 // Adds the versions behind the first, each in a container of its own.
 fn add_versions(alloc: Global, keeper: &mut Keeper<MemShelf>, versions: u32) -> Result<(), Stop>
-<<<<<<< HEAD
     requires { HasNoJob keeper.old }
-=======
-    requires { IsIdle keeper.old }
->>>>>>> fa5e4402ec2f4c0d6ee8519209213ea56b50881a
 {
     for number in 1..versions {
         add_version(alloc, keeper, number, 4000)?;
@@ -71,11 +67,7 @@ fn store_of(alloc: Global, versions: u32) -> Result<MemShelf, Stop> {
 
 // Deletes the first version, and tells how many containers are reclaimed.
 fn delete_first(keeper: &mut Keeper<MemShelf>) -> Result<u64, Stop>
-<<<<<<< HEAD
     requires { HasNoJob keeper.old }
-=======
-    requires { IsIdle keeper.old }
->>>>>>> fa5e4402ec2f4c0d6ee8519209213ea56b50881a
 {
     match delete(keeper, 0, 1)? {
         Answer::Removed { reclaimed, .. } => Ok(reclaimed),

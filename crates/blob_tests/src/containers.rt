@@ -114,14 +114,10 @@ fn five_faults<S: Shelf>(
     let table = table_fault(alloc, shelf);
     let payload = load_fault(alloc, shelf, sealed);
     let removed = is_removed(shelf);
-<<<<<<< HEAD
     (
         [first, second, third, table, payload],
         [removed, is_removed(shelf)],
     )
-=======
-    ([first, second, third, table, payload], [removed, is_removed(shelf)])
->>>>>>> fa5e4402ec2f4c0d6ee8519209213ea56b50881a
 }
 
 // The same over a shelf of which six calls fail, and whether that many are counted and the payload is left.

@@ -66,7 +66,6 @@ fn put_and_committed(alloc: Global, shelf: &mut MemShelf, sealed: &Sealed) -> [b
     let committed = halt_of(alloc, shelf) == None;
     let listed = lists(alloc, shelf, &[TABLE, PAYLOAD, RECIPE]);
     let payload = holds(shelf, PAYLOAD, b"abcd");
-<<<<<<< HEAD
     [
         put,
         committed,
@@ -74,9 +73,6 @@ fn put_and_committed(alloc: Global, shelf: &mut MemShelf, sealed: &Sealed) -> [b
         payload,
         holds(shelf, RECIPE, b"recipe"),
     ]
-=======
-    [put, committed, listed, payload, holds(shelf, RECIPE, b"recipe")]
->>>>>>> fa5e4402ec2f4c0d6ee8519209213ea56b50881a
 }
 
 // Whether a mending is done, the recipe has gone, and the floor is its own.
@@ -91,16 +87,12 @@ fn raised_and_cleaned(alloc: Global, shelf: &mut MemShelf) -> Result<[bool; 4], 
     let raised = floor_fault(shelf, 6) == None;
     let floor = floor_of(alloc, shelf) == Ok(6);
     let left = cleaned(alloc, shelf, &[TABLE, PAYLOAD, RECIPE])?;
-<<<<<<< HEAD
     Ok([
         raised,
         floor,
         left.is_empty(),
         lists(alloc, shelf, &[FLOOR]),
     ])
-=======
-    Ok([raised, floor, left.is_empty(), lists(alloc, shelf, &[FLOOR])])
->>>>>>> fa5e4402ec2f4c0d6ee8519209213ea56b50881a
 }
 
 fn each_part(alloc: Global) -> Result<([bool; 5], [bool; 3], [bool; 4]), Fail> {

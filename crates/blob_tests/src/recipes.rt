@@ -95,15 +95,11 @@ fn of_another_set(alloc: Global) -> Result<(usize, [bool; 2], Option<Fault>), Fa
     let blob = blob_of_3(alloc)?;
     let own = forms::spells(alloc, blob.as_slice(), 3, 1)?;
     let other = forms::spells(alloc, blob.as_slice(), 4, 1)?;
-<<<<<<< HEAD
     Ok((
         blob.len(),
         [own, other],
         fault_of_4(alloc, blob.as_slice())?,
     ))
-=======
-    Ok((blob.len(), [own, other], fault_of_4(alloc, blob.as_slice())?))
->>>>>>> fa5e4402ec2f4c0d6ee8519209213ea56b50881a
 }
 
 #[test]
@@ -115,14 +111,10 @@ fn a_recipe_is_none_of_another_set(rt: HostRuntime) -> Result<(), Fail> {
 }
 
 // The floor before and behind its put, and the fault of that.
-<<<<<<< HEAD
 fn floor_put(
     alloc: Global,
     shelf: &mut MemShelf,
 ) -> (Option<Version>, Option<Fault>, Option<Version>) {
-=======
-fn floor_put(alloc: Global, shelf: &mut MemShelf) -> (Option<Version>, Option<Fault>, Option<Version>) {
->>>>>>> fa5e4402ec2f4c0d6ee8519209213ea56b50881a
     let before = floor_of(alloc, shelf).ok();
     let fault = floor_fault(shelf);
     (before, fault, floor_of(alloc, shelf).ok())
@@ -167,15 +159,11 @@ fn put_and_removed(alloc: Global) -> Result<([bool; 3], Option<Fault>, Vec<Name>
     let recipe = put_fault(alloc, &mut shelf) == None;
     let removed = is_removed(&mut shelf);
     let fault = get_fault(alloc, &mut shelf, 3);
-<<<<<<< HEAD
     Ok((
         [floor, recipe, removed],
         fault,
         surveyed(alloc, &mut shelf)?,
     ))
-=======
-    Ok(([floor, recipe, removed], fault, surveyed(alloc, &mut shelf)?))
->>>>>>> fa5e4402ec2f4c0d6ee8519209213ea56b50881a
 }
 
 #[test]

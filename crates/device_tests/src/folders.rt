@@ -263,7 +263,6 @@ fn two_wait<R: Files, S: Shelf>(alloc: Global, files: &R, shelf: &mut S) -> [boo
     let waits = have_files(files, &WAITING[..1], true);
     let new = puts(alloc, shelf, PAYLOAD, b"new");
     let table = puts(alloc, shelf, TABLE, b"rows");
-<<<<<<< HEAD
     [
         old,
         waits,
@@ -271,9 +270,6 @@ fn two_wait<R: Files, S: Shelf>(alloc: Global, files: &R, shelf: &mut S) -> [boo
         table,
         have_files(files, &NAMED[2..], false),
     ]
-=======
-    [old, waits, new, table, have_files(files, &NAMED[2..], false)]
->>>>>>> fa5e4402ec2f4c0d6ee8519209213ea56b50881a
 }
 
 // Whether the payload is given, more are put, and all is settled with no fault.

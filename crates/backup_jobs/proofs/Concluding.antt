@@ -35,7 +35,7 @@ use Rattle.vault_types.specs.JobRanges.{IsCuttable}
 use Rattle.backup_pass.proofs.Decisions.{decide_in_turn}
 use Rattle.commit_laws.proofs.Listing.{found_is}
 use Rattle.keeper_catalog.specs.View.{View, Keeps}
-use Rattle.backup_jobs.specs.declared.closing.Ended.{Ended}
+use Rattle.backup_jobs.specs.declared.closing.StreamEnd.{StreamEnd}
 use Rattle.backup_jobs.specs.declared.opening.Job.{Job}
 use Rattle.backup_jobs.specs.Going.{Began, IsBegunAt, IsJobOf, HasEnded, IsReady, chunks_of, made, rules_of, len_at}
 use Rattle.backup_jobs.proofs.Chunks.{hows, written, written_pieces, made_numbered, made_few, made_rows, cuts_are_chunks}
@@ -143,7 +143,7 @@ all_named b x =
 
 -- the rows that the filling came to
 
-module _ (b : Began) (now : View) (e : Ended) (lens read : List ℕ) (h : HasEnded b now e lens read) (rows : List Row) (are : rows ≡ e.rest.rows) where
+module _ (b : Began) (now : View) (e : StreamEnd) (lens read : List ℕ) (h : HasEnded b now e lens read) (rows : List Row) (are : rows ≡ e.rest.rows) where
   rows_are : rows ≡ (made b read).rows
   rows_are = are ∙ h.put.is.rows
 

@@ -28,7 +28,7 @@ use Rattle.vault_types.specs.RecipeForms.{KeepsRecipes}
 use Rattle.keeper_catalog.specs.View.{View, Keeps, HasCore}
 use Rattle.keeper_jobs.specs.Jobs.{version_by}
 use Rattle.backup_jobs.specs.declared.closing.Rest.{Rest}
-use Rattle.backup_jobs.specs.declared.closing.Ended.{Ended}
+use Rattle.backup_jobs.specs.declared.closing.StreamEnd.{StreamEnd}
 use Rattle.backup_jobs.specs.declared.opening.Job.{Job}
 use Rattle.backup_jobs.specs.declared.opening.Opened.{Opened}
 use Rattle.backup_jobs.specs.Backup.{IsNumber, IsBackupFault, IsJobName}
@@ -177,12 +177,12 @@ pub record HasPutAll (b : Began) (now : View) (r : Rest) (lens read : List ℕ) 
   pub is : IsMade b r lens read
 
 -- all is put but the recipe
-pub record HasEnded (b : Began) (now : View) (e : Ended) (lens read : List ℕ) : Type 0 where
+pub record HasEnded (b : Began) (now : View) (e : StreamEnd) (lens read : List ℕ) : Type 0 where
   pub put : HasPutAll b now e.rest lens read
   pub whole : e.whole ≡ fp read
 
 -- the source was read to its end, and all is put but the recipe
-pub record HasReadAll (b : Began) (now : View) (to : SourceTold) (lens : List ℕ) (e : Ended) : Type 0 where
+pub record HasReadAll (b : Began) (now : View) (to : SourceTold) (lens : List ℕ) (e : StreamEnd) : Type 0 where
   pub read : List ℕ
   pub given : Gives b.source.left to.left read
   pub source_later : b.source.faults ≤ to.faults
@@ -190,7 +190,7 @@ pub record HasReadAll (b : Began) (now : View) (to : SourceTold) (lens : List �
   pub ended : HasEnded b now e lens read
 
 -- the stream has ended, or the backup stopped
-abbrev pub IsOver : Began → View → SourceTold → List ℕ → Result Ended Fault → Type 0
+abbrev pub IsOver : Began → View → SourceTold → List ℕ → Result StreamEnd Fault → Type 0
 IsOver b now to lens ended = IfOk ended (HasReadAll b now to lens) × IfErr ended (IsStopped b now to)
 
 -- the numbers of the job

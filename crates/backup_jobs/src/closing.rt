@@ -26,7 +26,7 @@ pub struct Rest {
 
 /// What a stream came to at its end: its filling, and its SHA-1.
 #[derive(Drop)]
-pub struct Ended {
+pub struct StreamEnd {
     pub rest: Rest,
     pub whole: Fp,
 }
@@ -43,7 +43,7 @@ fn conclude<S: Shelf>(
     alloc: Global,
     keeper: &Keeper<S>,
     job: &Job,
-    ended: Ended,
+    ended: StreamEnd,
     lens: &[u32],
 ) -> Result<(Recipe, Answer), Memory>
     requires { (b : Began) × (read : List ℕ) × IsJobOf b job.now × HasEnded b keeper.now ended lens.now read }
@@ -87,7 +87,7 @@ fn conclude_all<S: Shelf>(
     alloc: Global,
     keeper: &Keeper<S>,
     job: &Job,
-    ended: Result<Ended, Fault>,
+    ended: Result<StreamEnd, Fault>,
     lens: &[u32],
 ) -> Result<(Recipe, Answer), Fault>
     requires { (b : Began) × (to : SourceTold) × IsJobOf b job.now × IsOver b keeper.now to lens.now ended }
@@ -109,7 +109,7 @@ pub fn close_job<S: Shelf>(
     keeper: &mut Keeper<S>,
     job: &Job,
     index: Index,
-    ended: Result<Ended, Fault>,
+    ended: Result<StreamEnd, Fault>,
     lens: &[u32],
 ) -> Result<Answer, Fault>
     requires { (b : Began) × (to : SourceTold) × IsJobOf b job.now × (index ≡ b.index)

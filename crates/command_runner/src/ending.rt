@@ -18,7 +18,7 @@ use vault_types::{Answer, Fault};
 /// What a run gives back. `fault` is why it ended before its first line, or that its report could not be written;
 /// `answers` has one answer a line; `status` is the exit status.
 #[derive(Drop)]
-pub struct RunEnd<S, I, O> {
+pub struct Ended<S, I, O> {
     pub status: u8,
     pub fault: Option<Fault>,
     pub answers: Vec<Answer>,
@@ -34,7 +34,7 @@ pub(crate) fn ended_with<S, I, O>(
     fault: Option<Fault>,
     input: I,
     out: O,
-) -> RunEnd<S, I, O>
+) -> Ended<S, I, O>
     ensures fault { result.fault ≡ fault }
     ensures answers { result.answers.items ≡ answers.items }
     ensures shelf { result.shelf ≡ shelf }
@@ -42,7 +42,7 @@ pub(crate) fn ended_with<S, I, O>(
     ensures out { result.out ≡ out }
     ensures status { result.status ≡ spec.status_after answers.items fault }
 {
-    RunEnd {
+    Ended {
         status: status_after(answers.as_slice(), fault),
         fault,
         answers,
@@ -60,7 +60,7 @@ pub(crate) fn ended_early<S: Shelf, I: Source, O: Sink, R: Sink>(
     input: I,
     out: O,
     report: &mut R,
-) -> RunEnd<S, I, O>
+) -> Ended<S, I, O>
     ensures fault { result.fault ≡ Some fault }
     ensures none { result.answers.items ≡ [] }
     ensures shelf { result.shelf ≡ shelf }
@@ -79,7 +79,7 @@ pub(crate) fn ended_on_out<S: Shelf, K: ShelfStore<S>, I: Source, O: Sink>(
     answers: Vec<Answer>,
     input: I,
     out: O,
-) -> RunEnd<S, I, O>
+) -> Ended<S, I, O>
     ensures answers { result.answers.items ≡ answers.items }
     ensures shelf { S.told result.shelf ≡ K.shelf store }
     ensures input { result.input ≡ input }
@@ -98,7 +98,7 @@ pub(crate) fn ended_on_report<S: Shelf, K: ShelfStore<S>, I: Source, O: Sink, R:
     input: I,
     out: O,
     report: &mut R,
-) -> RunEnd<S, I, O>
+) -> Ended<S, I, O>
     ensures answers { result.answers.items ≡ answers.items }
     ensures shelf { S.told result.shelf ≡ K.shelf store }
     ensures input { result.input ≡ input }

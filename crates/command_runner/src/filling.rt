@@ -17,7 +17,7 @@ ghost use Rattle.workload.specs.Places.{told_of};
 ghost use Rattle.store_model.specs.World.{world};
 ghost use Rattle.command_runner.specs.Going.{GoesOn};
 
-use crate::ending::{RunEnd, ended_early, ended_with};
+use crate::ending::{Ended, ended_early, ended_with};
 use crate::outputs::print_filled;
 use crate::store::ShelfStore;
 use script_runner::{Done, script_plain};
@@ -87,7 +87,7 @@ pub(crate) fn run_fill<S: Shelf, K: ShelfStore<S>, I: Source, O: Sink, R: Sink>(
     input: I,
     out: O,
     report: &mut R,
-) -> RunEnd<S, I, O>
+) -> Ended<S, I, O>
     requires few { versions ≤ 64 }
     requires limits { AreLimits limits.now }
     ensures { (places : PlacesTold) → GoesOn (RunsFill true seed versions limits.now)

@@ -12,6 +12,6 @@ mod scripts;
 mod showing;
 mod store;
 
-pub use ending::RunEnd;
+pub use ending::Ended;
 pub use run::run_words;
 pub use store::ShelfStore;

@@ -4,7 +4,7 @@ ghost use Rattle.store_model.specs.Migrating.{RunsMigrate};
 ghost use Rattle.store_model.specs.World.{world};
 ghost use Rattle.command_runner.specs.Going.{GoesOn};
 
-use crate::ending::{RunEnd, answer_from, ended_early, ended_on_out, one_answer, open_for_one};
+use crate::ending::{Ended, answer_from, ended_early, ended_on_out, one_answer, open_for_one};
 use crate::store::ShelfStore;
 use std::alloc::Global;
 use vault_traits::{Shelf, Sink, Source};
@@ -16,7 +16,7 @@ pub(crate) fn run_migrate<S: Shelf, K: ShelfStore<S>, I: Source, O: Sink, R: Sin
     input: I,
     out: O,
     report: &mut R,
-) -> RunEnd<S, I, O>
+) -> Ended<S, I, O>
     ensures { (places : PlacesTold) → GoesOn RunsMigrate
         (world (S.told shelf) places (I.told input) (O.told out) (R.told report.old))
         (world (S.told result.shelf) places (I.told result.input) (O.told result.out) (R.told report.new))

@@ -9,7 +9,7 @@ ghost use Rattle.store_model.specs.World.{world};
 ghost use Rattle.command_runner.specs.Going.{GoesOn};
 
 use crate::ending::{
-    RunEnd, answer_from, ended_early, ended_on_out, ended_on_report, one_answer, open_for_one,
+    Ended, answer_from, ended_early, ended_on_out, ended_on_report, one_answer, open_for_one,
 };
 use crate::store::ShelfStore;
 use std::alloc::Global;
@@ -26,7 +26,7 @@ pub(crate) fn run_backup<S: Shelf, K: ShelfStore<S>, I: Source, O: Sink, R: Sink
     input: I,
     out: O,
     report: &mut R,
-) -> RunEnd<S, I, O>
+) -> Ended<S, I, O>
     requires config { IsInRange config.now }
     requires limits { AreLimits limits.now }
     ensures { (places : PlacesTold) → GoesOn (RunsBackup set config.now limits.now)
@@ -53,7 +53,7 @@ pub(crate) fn run_restore<S: Shelf, K: ShelfStore<S>, I: Source, O: Sink, R: Sin
     input: I,
     out: O,
     report: &mut R,
-) -> RunEnd<S, I, O>
+) -> Ended<S, I, O>
     requires some { 1 ≤ cache }
     requires few { cache ≤ 64 }
     ensures { (limits : LimitsOf) (places : PlacesTold) → GoesOn (RunsRestore set version cache limits)
@@ -85,7 +85,7 @@ pub(crate) fn run_delete<S: Shelf, K: ShelfStore<S>, I: Source, O: Sink, R: Sink
     input: I,
     out: O,
     report: &mut R,
-) -> RunEnd<S, I, O>
+) -> Ended<S, I, O>
     ensures { (limits : LimitsOf) (places : PlacesTold) → GoesOn (RunsDelete set through limits)
         (world (S.told shelf) places (I.told input) (O.told out) (R.told report.old))
         (world (S.told result.shelf) places (I.told result.input) (O.told result.out) (R.told report.new))

@@ -7,7 +7,7 @@ ghost use Rattle.command_runner.specs.Unbuilt.{Unbuilt};
 ghost use Rattle.command_runner.specs.Going.{BatchGoes};
 ghost use Rattle.command_runner.specs.Completes.{IsCompleteRun};
 
-use crate::ending::{RunEnd, ended_early};
+use crate::ending::{Ended, ended_early};
 use crate::filling::run_fill;
 use crate::migrating::run_migrate;
 use crate::one_line::{run_backup, run_delete, run_restore};
@@ -30,7 +30,7 @@ fn run_command<S: Shelf, K: ShelfStore<S>, P: Places, I: Source, O: Sink, R: Sin
     input: I,
     out: O,
     report: &mut R,
-) -> RunEnd<S, I, O>
+) -> Ended<S, I, O>
     requires { AreLimits limits.now }
     ensures { IsRun true Unbuilt (map string_bytes words.now) limits.now
         (world (S.told shelf) (P.told places.old) (I.told input) (O.told out) (R.told report.old))
@@ -96,7 +96,7 @@ fn run_batch<S: Shelf, K: ShelfStore<S>, P: Places, I: Source, O: Sink, R: Sink>
     input: I,
     out: O,
     report: &mut R,
-) -> RunEnd<S, I, O>
+) -> Ended<S, I, O>
     requires { AreLimits limits.now }
     ensures { BatchGoes limits.now
         (world (S.told shelf) (P.told places.old) (I.told input) (O.told out) (R.told report.old))
@@ -133,7 +133,7 @@ pub fn run_words<S: Shelf, K: ShelfStore<S>, P: Places, I: Source, O: Sink, R: S
     input: I,
     out: O,
     report: &mut R,
-) -> RunEnd<S, I, O>
+) -> Ended<S, I, O>
     requires { AreLimits limits.now }
     ensures run { IsRun true Unbuilt (map string_bytes words.now) limits.now
         (world (S.told shelf) (P.told places.old) (I.told input) (O.told out) (R.told report.old))

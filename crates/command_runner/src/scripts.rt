@@ -7,7 +7,7 @@ ghost use Rattle.store_model.specs.Ranges.{AreLimits, IsLineInRange};
 ghost use Rattle.store_model.specs.World.{world};
 ghost use Rattle.command_runner.specs.Going.{GoesOn};
 
-use crate::ending::{RunEnd, ended_early, ended_on_out};
+use crate::ending::{Ended, ended_early, ended_on_out};
 use crate::store::ShelfStore;
 use script_runner::{Done, script_plain};
 use std::alloc::Global;
@@ -24,7 +24,7 @@ pub(crate) fn run_lines<S: Shelf, K: ShelfStore<S>, P: Places, I: Source, O: Sin
     input: I,
     out: O,
     report: &mut R,
-) -> RunEnd<S, I, O>
+) -> Ended<S, I, O>
     requires apart { AreApartLines lines.now }
     requires ranges { AllByRecursion IsLineInRange lines.now }
     requires limits { AreLimits limits.now }

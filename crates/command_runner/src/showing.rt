@@ -9,7 +9,7 @@ ghost use Rattle.store_model.specs.World.{world};
 ghost use Rattle.command_runner.specs.Going.{GoesOn};
 ghost use Rattle.command_runner.specs.Showing.{IsWrittenRecipe};
 
-use crate::ending::{RunEnd, ended_early, ended_on_report, one_answer, open_for_one};
+use crate::ending::{Ended, ended_early, ended_on_report, one_answer, open_for_one};
 use crate::store::ShelfStore;
 use report_printer::write_all;
 use script_words::show_text;
@@ -73,7 +73,7 @@ pub(crate) fn run_show<S: Shelf, K: ShelfStore<S>, I: Source, O: Sink, R: Sink>(
     input: I,
     out: O,
     report: &mut R,
-) -> RunEnd<S, I, O>
+) -> Ended<S, I, O>
     ensures { (places : PlacesTold) → GoesOn (RunsShow set version)
         (world (S.told shelf) places (I.told input) (O.told out) (R.told report.old))
         (world (S.told result.shelf) places (I.told result.input) (O.told result.out) (R.told report.new))

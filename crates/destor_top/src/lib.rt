@@ -8,7 +8,7 @@ ghost use Rattle.store_model.specs.World.{world};
 ghost use Rattle.command_runner.specs.Completes.{IsCompleteRun};
 ghost use Rattle.command_runner.specs.Unbuilt.{Unbuilt};
 
-pub use command_runner::RunEnd;
+pub use command_runner::Ended;
 use command_runner::run_words;
 use keeper_store::KeeperStore;
 pub use report_printer::tell;
@@ -31,7 +31,7 @@ pub fn run_plain<S: Shelf, P: Places, I: Source + Send, O: Sink + Send, R: Sink>
     input: I,
     out: O,
     report: &mut R,
-) -> RunEnd<S, I, O>
+) -> Ended<S, I, O>
     requires chunks { 1 ≤ limits.now.chunks }
     requires chunks_high { limits.now.chunks ≤ 4194304 }
     requires last { 1 ≤ limits.now.last }

@@ -1,5 +1,5 @@
 // Runs of the program's call over devices in memory, and rows that say what a run gives.
-use destor_top::{RunEnd, run_plain};
+use destor_top::{Ended, run_plain};
 use std::alloc::Global;
 use std::str::from_utf8;
 use std::test::Fail;
@@ -127,7 +127,7 @@ pub fn run_with<S: Shelf + Drop, P: Places, I: Source + Send + Drop>(
         out,
         &mut report,
     );
-    let RunEnd {
+    let Ended {
         status,
         fault,
         answers,

@@ -12,7 +12,7 @@ use Rattle.backup_pass.specs.declared.pass.Pass.{Pass}
 use Rattle.backup_pass.specs.Passing.{HasPassed, index_in}
 use Rattle.keeper_catalog.specs.View.{View}
 use Rattle.backup_jobs.specs.Backup.{IsBackupFault}
-use Rattle.backup_jobs.specs.declared.closing.Ended.{Ended}
+use Rattle.backup_jobs.specs.declared.closing.StreamEnd.{StreamEnd}
 use Rattle.backup_jobs.specs.Going.{Began, AreNamed, IsUnderway, IsPutStop, IsStopped, IsOver, HasEnded, rules_of, len_of}
 use Rattle.backup_jobs.proofs.Jobs.{named_then, rose_from}
 use Rattle.backup_jobs.proofs.Causes.{put_is_cause}
@@ -155,7 +155,7 @@ pub going_from : (b : Began) (now : View) (to : SourceTold) (p : Pass) (lens : L
 going_from b now to p lens none h = subst (λ (l : List ℕ). IsGoing b now to p l []) (sym none) h
 
 -- the pass has ended, or stopped
-pub ends_over : (b : Began) (before now : View) (to : SourceTold) (pass : Pass) (lens lens' read : List ℕ) (h : IsGoing b before to pass lens read) → IsAtEnd to → (r : Result Ended Fault)
+pub ends_over : (b : Began) (before now : View) (to : SourceTold) (pass : Pass) (lens lens' read : List ℕ) (h : IsGoing b before to pass lens read) → IsAtEnd to → (r : Result StreamEnd Fault)
     → IfOk r (λ e. HasEnded b now e lens' read) → IfErr r (IsHalted b now (IsTooManyInAll b read)) → IsOver b now to lens' r
 ends_over b before now to pass lens lens' read h end (Ok e) ok err = (record { read = read; given = h.given; source_later = h.source_later; end = end; ended = ok }, tt)
-ends_over b before now to pass lens lens' read h end (Err f) ok err = (tt, end_stops b before now to to pass lens read h end {T = Ended} (Err f) err)
+ends_over b before now to pass lens lens' read h end (Err f) ok err = (tt, end_stops b before now to to pass lens read h end {T = StreamEnd} (Err f) err)

@@ -15,7 +15,7 @@ ghost use Rattle.serial_backup.specs.Streaming.{IsGoing};
 use crate::ending::end_pass;
 pub use crate::line::backup_line;
 use crate::reading::read_all;
-use backup_jobs::{Ended, Opened, close_job, open_job};
+use backup_jobs::{Opened, StreamEnd, close_job, open_job};
 use backup_pass::Pass;
 use fp_index::Index;
 use keeper_core::Keeper;
@@ -30,7 +30,7 @@ fn run<S: Shelf, I: Source>(
     source: &mut I,
     pass: Pass,
     lens: &mut Vec<u32>,
-) -> (Index, Result<Ended, Fault>)
+) -> (Index, Result<StreamEnd, Fault>)
     requires { (b : Began) × IsGoing b keeper.old (I.told source.old) pass lens.old.items [] }
     ensures index { result.0 ≡ index_in pass }
     ensures over { (b : Began) → IsGoing b keeper.old (I.told source.old) pass lens.old.items []

@@ -1,15 +1,14 @@
 -- Why a job stops, and what it has when it ends.
-use Rattle.std.proofs.Common.{◌≡◌, inl, inr, ℕ, ◌+◌, ◌*◌, ◌≤◌, List, [], length, Option, Some, None, refl, subst, arith}
+use Rattle.std.proofs.Common.{◌≡◌, ℕ, ◌+◌, ◌*◌, ◌≤◌, List, [], length, Option, Some, None, refl, subst, arith}
 use Rattle.std.specs.Prelude.{Result, Ok, Err, IfOk, IfErr}
 use Rattle.vault_types.specs.declared.Fault.{Fault}
 use Rattle.vault_types.specs.declared.Fault.TheVariants as fault
 use Rattle.vault_types.specs.declared.Recipe.{Recipe}
 use Rattle.vault_types.specs.declared.Answer.{Answer}
-use Rattle.vault_types.specs.Cuts.{cuts}
 use Rattle.vault_traits.specs.Told.{SourceTold, Gives}
 use Rattle.keeper_catalog.specs.View.{View}
 use Rattle.backup_jobs.specs.Backup.{IsBackupFault}
-use Rattle.backup_jobs.specs.declared.closing.Ended.{Ended}
+use Rattle.backup_jobs.specs.declared.closing.StreamEnd.{StreamEnd}
 use Rattle.backup_jobs.specs.Going.{Began, IsPutFault, IsStopped, HasReadAll, HasConcluded, IsReady, IsOver, made}
 use Rattle.backup_jobs.proofs.Limits.{cuts_within}
 
@@ -34,7 +33,7 @@ pub gives_none : (a : Option (List ℕ)) → Gives a a []
 gives_none None = refl
 gives_none (Some x) = refl
 
-module _ (b : Began) (now : View) (to : SourceTold) (lens : List ℕ) (e : Ended) (h : HasReadAll b now to lens e) where
+module _ (b : Began) (now : View) (to : SourceTold) (lens : List ℕ) (e : StreamEnd) (h : HasReadAll b now to lens e) where
   -- no more bytes were read than so many chunks can have
   read_within : length h.read ≤ b.limits.chunks * 65536 + 65536
   read_within = omega (arith, cuts_within b.config.cutting h.read h.ended.put.is.cuttable, h.ended.put.is.few)
@@ -67,8 +66,8 @@ module _ (b : Began) (now : View) (to : SourceTold) (lens : List ℕ) (e : Ended
   }
 
 -- which of the two it was
-pub over_ok : (b : Began) (now : View) (to : SourceTold) (lens : List ℕ) (ended : Result Ended Fault) (e : Ended) → IsOver b now to lens ended → ended ≡ Ok e → HasReadAll b now to lens e
-over_ok b now to lens ended e over is = subst (λ (r : Result Ended Fault). IfOk r (HasReadAll b now to lens)) is over.0
+pub over_ok : (b : Began) (now : View) (to : SourceTold) (lens : List ℕ) (ended : Result StreamEnd Fault) (e : StreamEnd) → IsOver b now to lens ended → ended ≡ Ok e → HasReadAll b now to lens e
+over_ok b now to lens ended e over is = subst (λ (r : Result StreamEnd Fault). IfOk r (HasReadAll b now to lens)) is over.0
 
-pub over_err : (b : Began) (now : View) (to : SourceTold) (lens : List ℕ) (ended : Result Ended Fault) (f : Fault) → IsOver b now to lens ended → ended ≡ Err f → IsStopped b now to f
-over_err b now to lens ended f over is = subst (λ (r : Result Ended Fault). IfErr r (IsStopped b now to)) is over.1
+pub over_err : (b : Began) (now : View) (to : SourceTold) (lens : List ℕ) (ended : Result StreamEnd Fault) (f : Fault) → IsOver b now to lens ended → ended ≡ Err f → IsStopped b now to f
+over_err b now to lens ended f over is = subst (λ (r : Result StreamEnd Fault). IfErr r (IsStopped b now to)) is over.1

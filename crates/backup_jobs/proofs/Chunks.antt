@@ -1,5 +1,5 @@
 -- The chunks of a stream, and the containers that a job fills with them.
-use Rattle.std.proofs.Common.{◌≡◌, ℕ, zero, suc, ◌+◌, ◌≤◌, Bool, true, false, cond, ◌&&◌, List, [], ◌∷◌, ◌++◌, map, length, drop, take, refl, sym, ap, ◌∙◌, subst, arith, length-append, Option, Some, None}
+use Rattle.std.proofs.Common.{◌≡◌, ℕ, zero, suc, ◌+◌, ◌≤◌, Bool, true, false, cond, ◌&&◌, List, [], ◌∷◌, ◌++◌, length, drop, take, refl, sym, ap, ◌∙◌, subst, arith, Option, Some, None}
 use Rattle.std.specs.Prelude.{nat_lt, nat_le, filter}
 use Rattle.std.specs.Option.{option_map_or}
 use Rattle.std.specs.List.{AllByRecursion}
@@ -14,9 +14,8 @@ use Rattle.vault_types.specs.Names.{NamedChunk, named_chunk}
 use Rattle.vault_types.specs.Pieces.{piece_len, pieces}
 use Rattle.vault_types.specs.Stages.{is_chunk}
 use Rattle.vault_types.specs.Tables.{Container}
-use Rattle.vault_types.specs.Decide.{Rules, decide, decisions, segments}
+use Rattle.vault_types.specs.Decide.{decide, decisions, segments}
 use Rattle.vault_types.specs.Fill.{fill, new_containers, rows_of, writes}
-use Rattle.vault_types.proofs.BackupLemmas.{joined-pieces}
 use Rattle.vault_types.proofs.RestoreLemmas.{fps-decide}
 use Rattle.fp_index.specs.Index.{found_in}
 use Rattle.container_fill.proofs.PlaceLemmas.{containers-len}

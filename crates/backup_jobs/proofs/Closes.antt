@@ -32,15 +32,15 @@ use Rattle.keeper_jobs.specs.Jobs.{version_by}
 use Rattle.keeper_core.specs.declared.keeper.Begun.{Begun}
 use Rattle.keeper_core.specs.Calls.{IsBegun, IsHalf, IsShelfFault}
 use Rattle.backup_jobs.proofs.Recipes.{second_there}
-use Rattle.backup_jobs.specs.Backup.{IsBackupFault, IsJobName, IsRefused, MayBeStray, BacksUp, after_backup, full_fault}
+use Rattle.backup_jobs.specs.Backup.{IsBackupFault, IsJobName, IsBackupRefused, MayBeStray, BacksUp, after_backup, full_fault}
 use Rattle.backup_jobs.specs.declared.opening.Opened.{Opened}
-use Rattle.backup_jobs.specs.Going.{AreNamed, Began, IsOf, IsUnderway, IsStopped, HasConcluded, IsOpened, began_with, job_core, job_with, made}
+use Rattle.backup_jobs.specs.Going.{AreNamed, Began, IsBegunAt, IsUnderway, IsStopped, HasConcluded, IsOpened, began_with, job_core, job_with, made}
 use Rattle.backup_jobs.proofs.Jobs.{near_any, put_cause}
 use Rattle.backup_jobs.proofs.Causes.{gives_none, put_is_cause}
 use Rattle.backup_jobs.proofs.Concluding.{made_is}
 
 -- the state after a commit of the definition's version is that after the backup
-commit_is : (b : Began) (K : Core) (read : List ℕ) → IsOf b K.state → committed (version_from K.state (made b read) (fp read) b.config) (job_with b.set (made b read).containers) K.state ≡ backup K.state b.set read b.config
+commit_is : (b : Began) (K : Core) (read : List ℕ) → IsBegunAt b K.state → committed (version_from K.state (made b read) (fp read) b.config) (job_with b.set (made b read).containers) K.state ≡ backup K.state b.set read b.config
 commit_is b K read of = ap (λ f. after_filling K.state b.set f (fp read) b.config) (sym (made_is b K.state read of))
 
 -- an error that came back
@@ -161,7 +161,7 @@ module _ (s : ℕ) (config : JobConfig) (limits : Limits) (v w : View) (from : S
 abbrev pub opened_by : ℕ → JobConfig → Begun → Opened
 opened_by s config begun = record { job = record { set = s; version = begun.version; first = begun.next; config = config }; sparse = begun.sparse; index = begun.index }
 
-pub told_by : (s : ℕ) (config : JobConfig) (limits : Limits) (v : View) (from : SourceTold) (begun : Begun) (S : State) → IsBegun S s begun → IsOf (began_with s config limits v from (opened_by s config begun)) S
+pub told_by : (s : ℕ) (config : JobConfig) (limits : Limits) (v : View) (from : SourceTold) (begun : Begun) (S : State) → IsBegun S s begun → IsBegunAt (began_with s config limits v from (opened_by s config begun)) S
 told_by s config limits v from begun S h = record { version = h.version; first = h.next; sparse = h.sparse; index = h.index }
 
 other_none : (K : Core) → IsCore K → K.pending ≡ pending.Not → K.other ≡ None
@@ -183,7 +183,7 @@ room_is S s limits roomy = step (nat_le limits.last (latest_of S s)) (nat_lt (2 
     step false true e f none = absurd (never_full true none refl)
     step false false e f none = (grind (arith, nat_tests), grind (arith, nat_tests))
 
-module _ (b : Began) (now : View) (core : HasCore b.keeper) (roomy : (K : Core) → Keeps b.keeper K → is_full K.state b.set b.limits ≡ false) (told : (K : Core) → Keeps b.keeper K → IsOf b K.state) where
+module _ (b : Began) (now : View) (core : HasCore b.keeper) (roomy : (K : Core) → Keeps b.keeper K → is_full K.state b.set b.limits ≡ false) (told : (K : Core) → Keeps b.keeper K → IsBegunAt b K.state) where
   room : (b.version ≤ b.limits.last) × (b.first + b.limits.chunks ≤ 2 ^ 63)
   room =
       let K = core.0 in
@@ -251,7 +251,7 @@ pub opens : (s : ℕ) (config : JobConfig) (limits : Limits) (v now : View) (fro
     → IsOpened s config limits v now from (opened_by s config begun)
 opens s config limits v now from begun core roomy are set most last keeps lent moment mended gets later pins tells recipes =
     let b : Began = began_with s config limits v from (opened_by s config begun) in
-    let told : (K : Core) → Keeps v K → IsOf b K.state = λ K kept. told_by s config limits v from begun K.state (are K kept) in
+    let told : (K : Core) → Keeps v K → IsBegunAt b K.state = λ K kept. told_by s config limits v from begun K.state (are K kept) in
     record {
       job = record { set = refl; version = refl; first = refl; config = refl };
       underway = begins b now core roomy told set most last keeps lent moment mended gets later pins tells recipes;
@@ -400,7 +400,7 @@ module _ (b : Began) where
             (Contains-push_cases before.memo.strays (recipe_name p.0.set p.0.version) n (subst (λ (l : List Name). Contains l n) more.0 among)))
             strays
 
-        refused_core : (K : Core) → Keeps b.keeper K → IsRefused b.set b.config b.limits h.read b.keeper now b.source to K f
+        refused_core : (K : Core) → Keeps b.keeper K → IsBackupRefused b.set b.config b.limits h.read b.keeper now b.source to K f
         refused_core K kept = record {
           other = left.other;
           keeps = left.keeps;

@@ -30,17 +30,17 @@ use Rattle.vault_types.proofs.NextLemmas.{ids_below}
 use Rattle.vault_types.proofs.SetLemmas.{IsAscending-set_of}
 use Rattle.fp_index.specs.Index.{found_in}
 use Rattle.har_monitor.proofs.Callers.{sparse_few, sparse_ascending, sparse_used}
-use Rattle.container_fill.proofs.SumLemmas.{fp-is_fp}
+use Rattle.vault_types.proofs.SumLemmas.{fp-is_fp}
 use Rattle.vault_types.specs.JobRanges.{IsCuttable}
 use Rattle.backup_pass.proofs.Decisions.{decide_in_turn}
 use Rattle.commit_laws.proofs.Listing.{found_is}
 use Rattle.keeper_catalog.specs.View.{View, Keeps}
-use Rattle.backup_jobs.specs.declared.closing.Ended.{Ended}
+use Rattle.backup_jobs.specs.declared.closing.StreamEnd.{StreamEnd}
 use Rattle.backup_jobs.specs.declared.opening.Job.{Job}
-use Rattle.backup_jobs.specs.Going.{Began, IsOf, IsJobOf, HasEnded, IsReady, chunks_of, made, rules_of, len_at}
+use Rattle.backup_jobs.specs.Going.{Began, IsBegunAt, IsJobOf, HasEnded, IsReady, chunks_of, made, rules_of, len_at}
 use Rattle.backup_jobs.proofs.Chunks.{hows, written, written_pieces, made_numbered, made_few, made_rows, cuts_are_chunks}
 use Rattle.backup_jobs.proofs.Sparses.{sparse_found}
-use Rattle.backup_jobs.proofs.Newest.{found-newest}
+use Rattle.fp_index.proofs.Tables.{found-newest}
 use Rattle.backup_jobs.proofs.Rows.{rows_fps, rows_lens, rows_each, taker_found, taker_below, found_later, apart_writes, written_rows, pieces_filled, all_used, AreApart}
 
 -- what the job makes of a stream is what the definition makes of it
@@ -48,7 +48,7 @@ use Rattle.backup_jobs.proofs.Rows.{rows_fps, rows_lens, rows_each, taker_found,
 filled_by : JobConfig → List NamedChunk → ℕ → (Fp → Option ℕ) → List ℕ → Filled
 filled_by config chunks next find avoided = fill next chunks (decide find (record { sparse = avoided; config = config }) chunks) config.container
 
-pub made_is : (b : Began) (S : State) (x : List ℕ) → IsOf b S → filling S b.set (chunks_of b.config x) b.config ≡ made b x
+pub made_is : (b : Began) (S : State) (x : List ℕ) → IsBegunAt b S → filling S b.set (chunks_of b.config x) b.config ≡ made b x
 unfolding filled_by
 made_is b S x h =
     ap (λ n. filled_by b.config (chunks_of b.config x) n (index S) (inherited_ids S b.set)) (sym h.first)
@@ -75,7 +75,7 @@ places b x = decisions (rules_of b) [] (segments (found_in b.index) b.config (ch
 abbrev IsPlace : Began → State → List ℕ → Fp → ℕ → Type 0
 IsPlace b S x f id = (1 ≤ id) × (id < b.first + length (made b x).containers) × IsSomeAnd (container_in (S.containers ++ (made b x).containers) id) (λ k. IsTrue (has_fp f k.table))
 
-module _ (b : Began) (S : State) (x : List ℕ) (h : IsOf b S) (valid : IsValid S) (low : 1 ≤ b.first) where
+module _ (b : Began) (S : State) (x : List ℕ) (h : IsBegunAt b S) (valid : IsValid S) (low : 1 ≤ b.first) where
   abbrev IsOld : Container → Type 0
   IsOld k = IsTable k.table × (k.table.id < next_of S)
 
@@ -143,7 +143,7 @@ all_named b x =
 
 -- the rows that the filling came to
 
-module _ (b : Began) (now : View) (e : Ended) (lens read : List ℕ) (h : HasEnded b now e lens read) (rows : List Row) (are : rows ≡ e.rest.rows) where
+module _ (b : Began) (now : View) (e : StreamEnd) (lens read : List ℕ) (h : HasEnded b now e lens read) (rows : List Row) (are : rows ≡ e.rest.rows) where
   rows_are : rows ≡ (made b read).rows
   rows_are = are ∙ h.put.is.rows
 

@@ -7,7 +7,6 @@ pub mod Ends
 pub mod Parts
 pub mod Sparses
 pub mod Rows
-pub mod Newest
 pub mod Concluding
 pub mod Closes
 mod Recipes

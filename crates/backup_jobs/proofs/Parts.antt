@@ -1,5 +1,5 @@
 -- Decided chunks that a filler takes.
-use Rattle.std.proofs.Common.{◌≡◌, ℕ, suc, ◌+◌, ◌<◌, ◌≤◌, List, [], ◌∷◌, ◌++◌, length, map, Option, Some, None, refl, sym, ap, ◌∙◌, subst, arith, append-nil, length-append}
+use Rattle.std.proofs.Common.{◌≡◌, ℕ, ◌+◌, ◌<◌, ◌≤◌, List, [], ◌∷◌, ◌++◌, length, map, Option, Some, None, refl, sym, ap, ◌∙◌, subst, arith, append-nil, length-append}
 use Rattle.std.specs.Prelude.{option_to_list, Result, Ok, Err, OnOk}
 use Rattle.std.specs.List.{zip}
 use Rattle.std.proofs.lemmas.List.{map-append, length-map}
@@ -7,8 +7,7 @@ use Rattle.vault_types.specs.declared.How.{How}
 use Rattle.vault_types.specs.declared.Fault.{Fault}
 use Rattle.vault_types.specs.Names.{NamedChunk}
 use Rattle.vault_types.specs.Tables.{Container}
-use Rattle.vault_types.specs.Decide.{decide}
-use Rattle.vault_types.specs.Fill.{Filled, fill}
+use Rattle.vault_types.specs.Fill.{fill}
 use Rattle.vault_types.specs.Stages.{decided_parts}
 use Rattle.fp_index.specs.Index.{found_in}
 use Rattle.container_fill.specs.Carried.{carried, AreInTurn}
@@ -16,16 +15,16 @@ use Rattle.container_fill.specs.Filling.{Filling, HasFilled, IsFilledBy, opened}
 use Rattle.backup_pass.proofs.Decisions.{decide_in_turn}
 use Rattle.keeper_catalog.specs.View.{View}
 use Rattle.backup_jobs.specs.declared.closing.Rest.{Rest}
-use Rattle.backup_jobs.specs.Going.{Began, AreNamed, IsUnderway, IsFilling, rules_of, chunks_of, made, len_of}
+use Rattle.backup_jobs.specs.Going.{Began, AreNamed, IsUnderway, HasFilledParts, rules_of, chunks_of, len_of}
 use Rattle.backup_jobs.proofs.Jobs.{named_then}
 use Rattle.backup_jobs.proofs.Chunks.{hows, hows_len, chunks_len, fill_few}
 use Rattle.backup_jobs.proofs.Ends.{HasLeft}
 
 -- the id that the filler gives its next container
-pub next_id : (b : Began) (now : View) (f : Filling) (lens : List ℕ) (parts : List (NamedChunk × How)) (h : IsFilling b now f lens parts) (id : ℕ) → id ≡ f.next → id ≡ b.first + length h.containers
+pub next_id : (b : Began) (now : View) (f : Filling) (lens : List ℕ) (parts : List (NamedChunk × How)) (h : HasFilledParts b now f lens parts) (id : ℕ) → id ≡ f.next → id ≡ b.first + length h.containers
 next_id b now f lens parts h id is = is ∙ h.filled.keeps.next
 
-module _ (b : Began) (before now : View) (old new : Filling) (lens lens' : List ℕ) (parts : List (NamedChunk × How)) (c : NamedChunk) (how : How) (h : IsFilling b before old lens parts) (room : length parts < b.limits.chunks) where
+module _ (b : Began) (before now : View) (old new : Filling) (lens lens' : List ℕ) (parts : List (NamedChunk × How)) (c : NamedChunk) (how : How) (h : HasFilledParts b before old lens parts) (room : length parts < b.limits.chunks) where
   -- the filler has taken the chunk, and has given out this
   abbrev pub HasTaken : Option Container → Type 0
   HasTaken given = HasFilled new b.first (h.containers ++ option_to_list given) (map (λ p. p.0) parts ++ c ∷ []) (map (λ p. p.1) parts ++ how ∷ [])
@@ -40,7 +39,7 @@ module _ (b : Began) (before now : View) (old new : Filling) (lens lens' : List 
   more_parts = omega (arith, room, length-append parts ((c, how) ∷ []))
 
   -- it gave out nothing
-  pub goes_on : HasTaken None → new.capacity ≡ old.capacity → IsFilling b before new lens (parts ++ (c, how) ∷ [])
+  pub goes_on : HasTaken None → new.capacity ≡ old.capacity → HasFilledParts b before new lens (parts ++ (c, how) ∷ [])
   goes_on taken capacity = record {
     containers = h.containers;
     underway = h.underway;
@@ -66,7 +65,7 @@ module _ (b : Began) (before now : View) (old new : Filling) (lens lens' : List 
 
   -- and it is put
   pub goes_with : (d : Container) → HasTaken (Some d) → new.capacity ≡ old.capacity → {T : Type 0} (r : Result T Fault) → OnOk r (IsUnderway b now (h.containers ++ d ∷ [])) → OnOk r (now.pending ≡ before.pending) → OnOk r (AreNamed before now (d ∷ [])) → OnOk r (lens' ≡ lens ++ len_of d ∷ [])
-      → OnOk r (IsFilling b now new lens' (parts ++ (c, how) ∷ []))
+      → OnOk r (HasFilledParts b now new lens' (parts ++ (c, how) ∷ []))
   goes_with d taken capacity (Err f) under waits named more = tt
   goes_with d taken capacity (Ok x) under waits named more = record {
     containers = h.containers ++ d ∷ [];
@@ -93,7 +92,7 @@ seconds [] (h ∷ hs) e = absurd (omega arith)
 seconds (c ∷ cs) [] e = absurd (omega arith)
 seconds (c ∷ cs) (h ∷ hs) e = ap (λ xs. h ∷ xs) (seconds cs hs (omega arith))
 
-module _ (b : Began) (before : View) (f : Filling) (lens : List ℕ) (parts : List (NamedChunk × How)) (h : IsFilling b before f lens parts) where
+module _ (b : Began) (before : View) (f : Filling) (lens : List ℕ) (parts : List (NamedChunk × How)) (h : HasFilledParts b before f lens parts) where
   -- there is room for the container that the filler held
   pub room_for_last : (d : Container) → h.containers ++ d ∷ [] ≡ (fill b.first (map (λ p. p.0) parts) (carried (map (λ p. p.0) parts) (map (λ p. p.1) parts)) f.capacity).containers → length h.containers < b.limits.chunks
   room_for_last d all =

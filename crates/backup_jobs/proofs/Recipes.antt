@@ -5,7 +5,7 @@ use Rattle.vault_types.specs.declared.Fp.{Fp}
 use Rattle.vault_types.specs.declared.Name.{Name}
 use Rattle.vault_types.specs.declared.Recipe.{Recipe}
 use Rattle.vault_types.specs.Names.{fp}
-use Rattle.vault_types.specs.Blobs.{recipe_bytes, recipe_bytes_2}
+use Rattle.vault_types.specs.Blobs.{recipe_bytes}
 use Rattle.vault_types.specs.Bytes.{row_bytes}
 use Rattle.vault_types.specs.Tables.{Container}
 use Rattle.vault_types.specs.State.{State, KeptVersion, IsValid, latest_of, length_of, version_of, recipe_of}

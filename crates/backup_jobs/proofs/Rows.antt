@@ -18,7 +18,7 @@ use Rattle.vault_types.specs.Fill.{new_container, new_containers, taker, home, r
 use Rattle.vault_types.proofs.PieceLemmas.{piece_rule}
 use Rattle.vault_types.proofs.FillLemmas.{first_with, all_of, same_fps, has_fp-chunks, taker_above}
 use Rattle.vault_types.proofs.DecideLemmas.{IsFair, AreFair, places_of}
-use Rattle.container_fill.proofs.SumLemmas.{fp-is_fp}
+use Rattle.vault_types.proofs.SumLemmas.{fp-is_fp}
 use Rattle.container_fill.proofs.FpLemmas.{same-refl}
 use Rattle.container_fill.specs.Carried.{AreInTurnBehind}
 use Rattle.backup_jobs.proofs.Chunks.{AreChunks, chunk_sizes}

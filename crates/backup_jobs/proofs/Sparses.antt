@@ -9,9 +9,9 @@ use Rattle.vault_types.specs.declared.Row.{Row}
 use Rattle.vault_types.specs.Lists.{has, distinct_by}
 use Rattle.vault_types.specs.Tables.{Container, payload_len}
 use Rattle.vault_types.specs.State.{container_in}
-use Rattle.vault_types.specs.Backup.{payload_of}
+use Rattle.vault_types.specs.Backup.{payload_length_of}
 use Rattle.vault_types.specs.Sparse.{sparse}
-use Rattle.har_monitor.specs.Monitor.{Counted, HasSeen, NamesEach, ids_of, payload_of as given}
+use Rattle.har_monitor.specs.Monitor.{Counted, HasSeen, NamesEach, ids_of, listed_length as given}
 use Rattle.har_monitor.proofs.Callers.{names_each, sparse_same}
 use Rattle.backup_jobs.specs.Going.{AreNumbered, len_of, own_len, len_at}
 
@@ -53,7 +53,7 @@ module _ (m : Counted) (rows : List Row) (f : ℕ → ℕ) (payloads : List (ℕ
       (λ c e. ap (λ ps. given ps c) made ∙ given_at f c m.ids (ap (has c) seen.ids ∙ has-distinct_by c (ids_of rows) e))
 
 -- where the containers of a job are numbered, how many bytes one has stands at its place
-own_found : (cs : List Container) (first c : ℕ) → AreNumbered first cs → payload_of cs c ≡ own_len first (map len_of cs) c
+own_found : (cs : List Container) (first c : ℕ) → AreNumbered first cs → payload_length_of cs c ≡ own_len first (map len_of cs) c
 own_found [] first c h = none (nat_lt c first)
   where
     none : (b : Bool) → ◌≡◌ {A = ℕ} 0 (cond b 0 0)
@@ -61,7 +61,7 @@ own_found [] first c h = none (nat_lt c first)
     none false = refl
 own_found (d ∷ cs) first c h = step (d.table.id == c) (nat_lt c first) refl refl (own_found cs (first + 1) c h.1)
   where
-    step : (b l : Bool) → (d.table.id == c) ≡ b → nat_lt c first ≡ l → payload_of cs c ≡ own_len (first + 1) (map len_of cs) c
+    step : (b l : Bool) → (d.table.id == c) ≡ b → nat_lt c first ≡ l → payload_length_of cs c ≡ own_len (first + 1) (map len_of cs) c
         → option_map_or (λ (k : Container). payload_len k.table.rows) (cond b (Some d) (container_in cs c)) 0 ≡ cond l 0 (unwrap_or (slice_get (len_of d ∷ map len_of cs) (c - first)) 0)
     step true true e f more =
         let same : d.table.id ≡ c = grind (arith, nat_tests) in
@@ -82,17 +82,17 @@ own_found (d ∷ cs) first c h = step (d.table.id == c) (nat_lt c first) refl re
         ∙ sym (ap (λ n. unwrap_or (slice_get (len_of d ∷ map len_of cs) n) 0) place)
 
 -- so does that of a container of the store, or of the job
-pub len_found : (old cs : List Container) (first c : ℕ) → AreNumbered first cs → payload_of (old ++ cs) c ≡ len_at old first (map len_of cs) c
+pub len_found : (old cs : List Container) (first c : ℕ) → AreNumbered first cs → payload_length_of (old ++ cs) c ≡ len_at old first (map len_of cs) c
 len_found [] cs first c h = own_found cs first c h
 len_found (d ∷ old) cs first c h = step (d.table.id == c) (len_found old cs first c h)
   where
-    step : (b : Bool) → payload_of (old ++ cs) c ≡ len_at old first (map len_of cs) c
+    step : (b : Bool) → payload_length_of (old ++ cs) c ≡ len_at old first (map len_of cs) c
         → option_map_or (λ (k : Container). payload_len k.table.rows) (cond b (Some d) (container_in (old ++ cs) c)) 0 ≡ unwrap_or (option_map len_of (cond b (Some d) (container_in old c))) (own_len first (map len_of cs) c)
     step true more = refl
     step false more = more
 
 -- the sparse list of a version, from how many bytes the payload of each container has
 pub sparse_found : (rows : List Row) (old cs : List Container) (first threshold limit : ℕ) → AreNumbered first cs
-    → sparse rows (payload_of (old ++ cs)) threshold limit ≡ sparse rows (len_at old first (map len_of cs)) threshold limit
+    → sparse rows (payload_length_of (old ++ cs)) threshold limit ≡ sparse rows (len_at old first (map len_of cs)) threshold limit
 sparse_found rows old cs first threshold limit h =
-    sparse_same rows (payload_of (old ++ cs)) (len_at old first (map len_of cs)) threshold limit (λ c e. len_found old cs first c h)
+    sparse_same rows (payload_length_of (old ++ cs)) (len_at old first (map len_of cs)) threshold limit (λ c e. len_found old cs first c h)

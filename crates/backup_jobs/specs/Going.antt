@@ -1,5 +1,5 @@
 -- A backup while it is under way.
-use Rattle.std.specs.Prelude.{◌≡◌, ◌⊎◌, ◌≤◌, ◌<◌, ◌+◌, ◌-◌, ◌*◌, ◌^◌, ℕ, false, nat_lt, if◌then◌else◌, slice_get, unwrap_or, List, [], ◌∷◌, ◌++◌, map, length, sum_by, Contains, Some, None, option_map, IsSome, Result, IfOk, IfErr}
+use Rattle.std.specs.Prelude.{◌≡◌, ◌⊎◌, ◌≤◌, ◌<◌, ◌+◌, ◌-◌, ◌*◌, ◌^◌, ℕ, false, nat_lt, if◌then◌else◌, slice_get, unwrap_or, List, [], ◌∷◌, map, length, sum_by, Contains, Some, None, option_map, IsSome, Result, IfOk, IfErr}
 use Rattle.vault_types.specs.declared.Fp.{Fp}
 use Rattle.vault_types.specs.declared.How.{How}
 use Rattle.vault_types.specs.declared.Name.{Name}
@@ -18,7 +18,7 @@ use Rattle.vault_types.specs.Tables.{Container, payload_len}
 use Rattle.vault_types.specs.State.{State, latest_of, next_of, container_in, is_full}
 use Rattle.vault_types.specs.Backup.{inherited_ids, version_from, stored}
 use Rattle.vault_types.specs.Events.{Core, Job as OpenJob, IsContainerName, IsNear, CanCommit, after_refused}
-use Rattle.vault_traits.specs.Told.{SourceTold, Gives}
+use Rattle.vault_traits.specs.Told.{SourceTold, Gives, IsAtEnd}
 use Rattle.vault_traits.specs.Crash.{LeavesNowIfTold, LeavesOnlyIfTold}
 use Rattle.fp_index.specs.Index.{found_in, IsIndexOf}
 use Rattle.rewrite_stage.specs.declared.Decided.{Decided}
@@ -28,13 +28,13 @@ use Rattle.vault_types.specs.RecipeForms.{KeepsRecipes}
 use Rattle.keeper_catalog.specs.View.{View, Keeps, HasCore}
 use Rattle.keeper_jobs.specs.Jobs.{version_by}
 use Rattle.backup_jobs.specs.declared.closing.Rest.{Rest}
-use Rattle.backup_jobs.specs.declared.closing.Ended.{Ended}
+use Rattle.backup_jobs.specs.declared.closing.StreamEnd.{StreamEnd}
 use Rattle.backup_jobs.specs.declared.opening.Job.{Job}
 use Rattle.backup_jobs.specs.declared.opening.Opened.{Opened}
-use Rattle.backup_jobs.specs.Backup.{IsNumber, IsAtEnd, IsBackupFault, IsJobName}
+use Rattle.backup_jobs.specs.Backup.{IsNumber, IsBackupFault, IsJobName}
 
--- what a backup began with: the set, the number of its version, the settings, the first free id, the sparse list and the
--- index that it was told, and the keeper and the source as they were
+-- what a backup began with: the set, the number of its version, the settings, the first free id,
+-- the sparse list and the index that it was told, and the keeper and the source as they were
 pub record Began : Type 0 where
   pub set : ℕ
   pub version : ℕ
@@ -47,7 +47,7 @@ pub record Began : Type 0 where
   pub source : SourceTold
 
 -- what it was told is that of the state
-pub record IsOf (b : Began) (S : State) : Type 0 where
+pub record IsBegunAt (b : Began) (S : State) : Type 0 where
   pub version : b.version ≡ latest_of S b.set + 1
   pub first : b.first ≡ next_of S
   pub sparse : b.sparse ≡ inherited_ids S b.set
@@ -68,12 +68,13 @@ job_core s containers v K = after_refused None (Some (job_with s containers)) v.
 
 -- each stray is one from before, or a name of one of these containers
 pub record AreNamed (before now : View) (containers : List Container) : Type 0 where
-  pub each : (n : Name) → Contains now.memo.strays n → Contains before.memo.strays n ⊎ IsContainerName containers n
+  pub each : (n : Name) → Contains now.memo.strays n
+      → Contains before.memo.strays n ⊎ IsContainerName containers n
 
 -- the job has put these containers. Its set was not full
 pub record IsUnderway (b : Began) (now : View) (containers : List Container) : Type 0 where
   pub core : HasCore b.keeper
-  pub told : (K : Core) → Keeps b.keeper K → IsOf b K.state
+  pub told : (K : Core) → Keeps b.keeper K → IsBegunAt b K.state
   pub roomy : (K : Core) → Keeps b.keeper K → is_full K.state b.set b.limits ≡ false
   pub set : b.set < 256
   pub version : b.version ≤ 4294967294
@@ -85,11 +86,15 @@ pub record IsUnderway (b : Began) (now : View) (containers : List Container) : T
   pub pins : now.pins ≡ b.keeper.pins
   pub tells : IsSome b.keeper.told.blobs → IsSome now.told.blobs
   pub recipes : (K : Core) → Keeps b.keeper K → KeepsRecipes K.state b.keeper.told.blobs now.told.blobs
-  pub strays : (n : Name) → Contains now.memo.strays n → Contains b.keeper.memo.strays n ⊎ IsJobName b.first b.limits.chunks n
+  pub strays : (n : Name) → Contains now.memo.strays n
+      → Contains b.keeper.memo.strays n ⊎ IsJobName b.first b.limits.chunks n
   pub later : b.keeper.told.faults ≤ now.told.faults
   pub gets : now.told.gets ≡ b.keeper.told.gets
-  pub crash : (K : Core) → Keeps b.keeper K → LeavesNowIfTold b.keeper.told.history (IsNear K.state K.other) → LeavesOnlyIfTold b.keeper.told.history now.told.history (IsNear K.state K.other)
-  pub images : (K : Core) → Keeps b.keeper K → (b.keeper.pending ≡ pending.Not → LeavesNowIfTold b.keeper.told.history (IsNear K.state K.other)) → LeavesNowIfTold now.told.history (IsNear K.state None)
+  pub crash : (K : Core) → Keeps b.keeper K → LeavesNowIfTold b.keeper.told.history (IsNear K.state K.other)
+      → LeavesOnlyIfTold b.keeper.told.history now.told.history (IsNear K.state K.other)
+  pub images : (K : Core) → Keeps b.keeper K
+      → (b.keeper.pending ≡ pending.Not → LeavesNowIfTold b.keeper.told.history (IsNear K.state K.other))
+      → LeavesNowIfTold now.told.history (IsNear K.state None)
 
 -- there was no memory, or the shelf failed
 abbrev pub IsPutFault : ℕ → ℕ → Fault → Type 0
@@ -111,7 +116,9 @@ abbrev pub chunks_of : JobConfig → List ℕ → List NamedChunk
 chunks_of config x = map named_chunk (cuts x config.cutting)
 
 abbrev pub made : Began → List ℕ → Filled
-made b x = fill b.first (chunks_of b.config x) (decide (found_in b.index) (rules_of b) (chunks_of b.config x)) b.config.container
+made b x =
+    fill b.first (chunks_of b.config x) (decide (found_in b.index) (rules_of b) (chunks_of b.config x))
+    b.config.container
 
 -- how many bytes the payload of a container has
 abbrev pub len_of : Container → ℕ
@@ -136,7 +143,8 @@ pub record IsStopped (b : Began) (now : View) (to : SourceTold) (f : Fault) : Ty
   pub cause : IsBackupFault b.config b.limits b.keeper.told.faults now.told.faults b.source to read f
 
 -- these parts went into the filler, and the containers that it gave out are put
-pub record IsFilling (b : Began) (now : View) (f : Filling) (lens : List ℕ) (parts : List (NamedChunk × How)) : Type 0 where
+pub record HasFilledParts (b : Began) (now : View) (f : Filling) (lens : List ℕ)
+    (parts : List (NamedChunk × How)) : Type 0 where
   pub containers : List Container
   pub underway : IsUnderway b now containers
   pub waits : now.pending ≡ pending.Not
@@ -169,12 +177,12 @@ pub record HasPutAll (b : Began) (now : View) (r : Rest) (lens read : List ℕ) 
   pub is : IsMade b r lens read
 
 -- all is put but the recipe
-pub record HasEnded (b : Began) (now : View) (e : Ended) (lens read : List ℕ) : Type 0 where
+pub record HasEnded (b : Began) (now : View) (e : StreamEnd) (lens read : List ℕ) : Type 0 where
   pub put : HasPutAll b now e.rest lens read
   pub whole : e.whole ≡ fp read
 
 -- the source was read to its end, and all is put but the recipe
-pub record HasReadAll (b : Began) (now : View) (to : SourceTold) (lens : List ℕ) (e : Ended) : Type 0 where
+pub record HasReadAll (b : Began) (now : View) (to : SourceTold) (lens : List ℕ) (e : StreamEnd) : Type 0 where
   pub read : List ℕ
   pub given : Gives b.source.left to.left read
   pub source_later : b.source.faults ≤ to.faults
@@ -182,7 +190,7 @@ pub record HasReadAll (b : Began) (now : View) (to : SourceTold) (lens : List �
   pub ended : HasEnded b now e lens read
 
 -- the stream has ended, or the backup stopped
-abbrev pub IsOver : Began → View → SourceTold → List ℕ → Result Ended Fault → Type 0
+abbrev pub IsOver : Began → View → SourceTold → List ℕ → Result StreamEnd Fault → Type 0
 IsOver b now to lens ended = IfOk ended (HasReadAll b now to lens) × IfErr ended (IsStopped b now to)
 
 -- the numbers of the job
@@ -192,11 +200,16 @@ pub record IsJobOf (b : Began) (job : Job) : Type 0 where
   pub first : job.first ≡ b.first
   pub config : job.config ≡ b.config
 
--- the recipe may be committed and says the version of the definition, with the sum of its bytes, and the answer is that of it
+-- the recipe may be committed and says the version of the definition, with the sum of its bytes,
+-- and the answer is that of it
 pub record IsReady (b : Began) (now : View) (read : List ℕ) (p : Recipe × Answer) : Type 0 where
-  pub can : (K : Core) → Keeps b.keeper K → CanCommit (job_core b.set (made b read).containers now K) (job_with b.set (made b read).containers) p.0
+  pub can : (K : Core) → Keeps b.keeper K
+      → CanCommit (job_core b.set (made b read).containers now K) (job_with b.set (made b read).containers)
+      p.0
   pub says : (K : Core) → Keeps b.keeper K
-      → version_by (job_core b.set (made b read).containers now K) (job_with b.set (made b read).containers) p.0 ≡ version_from K.state (made b read) (fp read) b.config
+      → version_by (job_core b.set (made b read).containers now K) (job_with b.set (made b read).containers)
+      p.0
+      ≡ version_from K.state (made b read) (fp read) b.config
   pub whole : IsSome p.0.whole
   pub answer : (K : Core) → Keeps b.keeper K → p.1 ≡ stored K.state b.set read b.config
 
@@ -228,7 +241,8 @@ began_with s config limits v from o = record {
 }
 
 -- the job has begun, and has put nothing
-pub record IsOpened (s : ℕ) (config : JobConfig) (limits : Limits) (before now : View) (from : SourceTold) (o : Opened) : Type 0 where
+pub record IsOpened (s : ℕ) (config : JobConfig) (limits : Limits) (before now : View) (from : SourceTold)
+    (o : Opened) : Type 0 where
   pub job : IsJobOf (began_with s config limits before from o) o.job
   pub underway : IsUnderway (began_with s config limits before from o) now []
   pub waits : now.pending ≡ pending.Not

@@ -26,7 +26,7 @@ pub struct Rest {
 
 /// What a stream came to at its end: its filling, and its SHA-1.
 #[derive(Drop)]
-pub struct Ended {
+pub struct StreamEnd {
     pub rest: Rest,
     pub whole: Fp,
 }
@@ -43,11 +43,12 @@ fn conclude<S: Shelf>(
     alloc: Global,
     keeper: &Keeper<S>,
     job: &Job,
-    ended: Ended,
+    ended: StreamEnd,
     lens: &[u32],
 ) -> Result<(Recipe, Answer), Memory>
     requires { (b : Began) × (read : List ℕ) × IsJobOf b job.now × HasEnded b keeper.now ended lens.now read }
-    ensures { (b : Began) (read : List ℕ) → IsJobOf b job.now → HasEnded b keeper.now ended lens.now read → IfOk result (IsReady b keeper.now read) }
+    ensures { (b : Began) (read : List ℕ) → IsJobOf b job.now → HasEnded b keeper.now ended lens.now read
+        → IfOk result (IsReady b keeper.now read) }
 {
     let rows = ended.rest.rows.as_slice();
     let sparse = sparse_ids(
@@ -86,12 +87,14 @@ fn conclude_all<S: Shelf>(
     alloc: Global,
     keeper: &Keeper<S>,
     job: &Job,
-    ended: Result<Ended, Fault>,
+    ended: Result<StreamEnd, Fault>,
     lens: &[u32],
 ) -> Result<(Recipe, Answer), Fault>
     requires { (b : Began) × (to : SourceTold) × IsJobOf b job.now × IsOver b keeper.now to lens.now ended }
-    ensures ok { (b : Began) (to : SourceTold) → IsJobOf b job.now → IsOver b keeper.now to lens.now ended → IfOk result (HasConcluded b keeper.now to) }
-    ensures err { (b : Began) (to : SourceTold) → IsJobOf b job.now → IsOver b keeper.now to lens.now ended → IfErr result (IsStopped b keeper.now to) }
+    ensures ok { (b : Began) (to : SourceTold) → IsJobOf b job.now → IsOver b keeper.now to lens.now ended
+        → IfOk result (HasConcluded b keeper.now to) }
+    ensures err { (b : Began) (to : SourceTold) → IsJobOf b job.now → IsOver b keeper.now to lens.now ended
+        → IfErr result (IsStopped b keeper.now to) }
 {
     match ended {
         Err(fault) => Err(fault),
@@ -106,11 +109,13 @@ pub fn close_job<S: Shelf>(
     keeper: &mut Keeper<S>,
     job: &Job,
     index: Index,
-    ended: Result<Ended, Fault>,
+    ended: Result<StreamEnd, Fault>,
     lens: &[u32],
 ) -> Result<Answer, Fault>
-    requires { (b : Began) × (to : SourceTold) × IsJobOf b job.now × (index ≡ b.index) × IsOver b keeper.old to lens.now ended }
-    ensures { (b : Began) (to : SourceTold) → IsJobOf b job.now → index ≡ b.index → IsOver b keeper.old to lens.now ended
+    requires { (b : Began) × (to : SourceTold) × IsJobOf b job.now × (index ≡ b.index)
+        × IsOver b keeper.old to lens.now ended }
+    ensures { (b : Began) (to : SourceTold) → IsJobOf b job.now → index ≡ b.index
+        → IsOver b keeper.old to lens.now ended
         → BacksUp b.set b.config b.limits b.keeper keeper.new b.source to result }
 {
     match conclude_all(alloc, keeper, job, ended, lens) {

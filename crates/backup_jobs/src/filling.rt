@@ -4,7 +4,7 @@ ghost use Rattle.vault_types.specs.declared.How.{How};
 ghost use Rattle.vault_types.specs.Names.{NamedChunk};
 ghost use Rattle.vault_types.specs.Stages.{decided_parts};
 ghost use Rattle.fp_index.specs.Index.{found_in};
-ghost use Rattle.backup_jobs.specs.Going.{Began, IsFilling, IsPutStop, HasPutAll, part_of, rules_of, chunks_of};
+ghost use Rattle.backup_jobs.specs.Going.{Began, HasFilledParts, IsPutStop, HasPutAll, part_of, rules_of, chunks_of};
 
 use crate::closing::Rest;
 use crate::putting::put_one;
@@ -24,10 +24,14 @@ pub fn take_part<S: Shelf>(
     lens: &mut Vec<u32>,
     decided: Decided,
 ) -> Result<(), Fault>
-    requires { (b : Began) × (parts : List (NamedChunk × How)) × IsFilling b keeper.old filler.old lens.old.items parts × (length parts < b.limits.chunks) }
-    ensures ok { (b : Began) (parts : List (NamedChunk × How)) → IsFilling b keeper.old filler.old lens.old.items parts → length parts < b.limits.chunks
-        → OnOk result (IsFilling b keeper.new filler.new lens.new.items (parts ++ part_of decided ∷ [])) }
-    ensures err { (b : Began) (parts : List (NamedChunk × How)) → IsFilling b keeper.old filler.old lens.old.items parts → length parts < b.limits.chunks
+    requires { (b : Began) × (parts : List (NamedChunk × How))
+        × HasFilledParts b keeper.old filler.old lens.old.items parts × (length parts < b.limits.chunks) }
+    ensures ok { (b : Began) (parts : List (NamedChunk × How))
+        → HasFilledParts b keeper.old filler.old lens.old.items parts → length parts < b.limits.chunks
+        → OnOk result
+        (HasFilledParts b keeper.new filler.new lens.new.items (parts ++ part_of decided ∷ [])) }
+    ensures err { (b : Began) (parts : List (NamedChunk × How))
+        → HasFilledParts b keeper.old filler.old lens.old.items parts → length parts < b.limits.chunks
         → IfErr result (IsPutStop b keeper.new) }
 {
     match filler.push(alloc, decided)? {
@@ -44,11 +48,14 @@ pub fn finish_parts<S: Shelf>(
     filler: Filler,
     lens: &mut Vec<u32>,
 ) -> Result<Rest, Fault>
-    requires { (b : Began) × (parts : List (NamedChunk × How)) × IsFilling b keeper.old filler lens.old.items parts }
-    ensures ok { (b : Began) (parts : List (NamedChunk × How)) (read : List ℕ) → IsFilling b keeper.old filler lens.old.items parts
+    requires { (b : Began) × (parts : List (NamedChunk × How))
+        × HasFilledParts b keeper.old filler lens.old.items parts }
+    ensures ok { (b : Began) (parts : List (NamedChunk × How)) (read : List ℕ)
+        → HasFilledParts b keeper.old filler lens.old.items parts
         → parts ≡ decided_parts (found_in b.index) (rules_of b) (chunks_of b.config read)
         → IfOk result (λ r. HasPutAll b keeper.new r lens.new.items read) }
-    ensures err { (b : Began) (parts : List (NamedChunk × How)) → IsFilling b keeper.old filler lens.old.items parts → IfErr result (IsPutStop b keeper.new) }
+    ensures err { (b : Began) (parts : List (NamedChunk × How))
+        → HasFilledParts b keeper.old filler lens.old.items parts → IfErr result (IsPutStop b keeper.new) }
 {
     let Filled {
         last,

@@ -8,7 +8,7 @@ mod opening;
 mod putting;
 mod sparse;
 
-pub use closing::{Ended, Rest, close_job};
+pub use closing::{Rest, StreamEnd, close_job};
 pub use filling::{finish_parts, take_part};
 pub use opening::{Job, Opened, open_job};
 pub use putting::put_all;

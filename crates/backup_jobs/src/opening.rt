@@ -40,8 +40,10 @@ pub fn open_job<S: Shelf>(
     requires no_job { keeper.old.job ≡ None }
     requires high { limits.now.chunks ≤ 4194304 }
     requires last { limits.now.last ≤ 4294967294 }
-    ensures ok { (from : SourceTold) → IfOk result (IsOpened set config.now limits.now keeper.old keeper.new from) }
-    ensures err { (from : SourceTold) → IfErr result (λ f. BacksUp set config.now limits.now keeper.old keeper.new from from (Err f)) }
+    ensures ok { (from : SourceTold)
+        → IfOk result (IsOpened set config.now limits.now keeper.old keeper.new from) }
+    ensures err { (from : SourceTold)
+        → IfErr result (λ f. BacksUp set config.now limits.now keeper.old keeper.new from from (Err f)) }
 {
     if keeper.full(set, limits) {
         return Err(Fault::Full {

@@ -25,10 +25,13 @@ pub(crate) fn put_one<S: Shelf>(
     sealed: Sealed,
     lens: &mut Vec<u32>,
 ) -> Result<(), Fault>
-    requires { (b : Began) × (before : List Container) × IsUnderway b keeper.old before × (sealed.table.id ≡ b.first + length before) × (length before < b.limits.chunks) }
-    ensures ok { (b : Began) (before : List Container) → sealed.table.id ≡ b.first + length before → length before < b.limits.chunks
+    requires { (b : Began) × (before : List Container) × IsUnderway b keeper.old before
+        × (sealed.table.id ≡ b.first + length before) × (length before < b.limits.chunks) }
+    ensures ok { (b : Began) (before : List Container) → sealed.table.id ≡ b.first + length before
+        → length before < b.limits.chunks
         → IsUnderway b keeper.old before → OnOk result (IsUnderway b keeper.new (before ++ sealed ∷ [])) }
-    ensures err { (b : Began) (before : List Container) → sealed.table.id ≡ b.first + length before → length before < b.limits.chunks
+    ensures err { (b : Began) (before : List Container) → sealed.table.id ≡ b.first + length before
+        → length before < b.limits.chunks
         → IsUnderway b keeper.old before → IfErr result (IsPutStop b keeper.new) }
     ensures waits { OnOk result (keeper.new.pending ≡ keeper.old.pending) }
     ensures named { OnOk result (AreNamed keeper.old keeper.new (sealed ∷ [])) }
@@ -45,10 +48,13 @@ pub fn put_all<S: Shelf>(
     sealed: Vec<Sealed>,
     lens: &mut Vec<u32>,
 ) -> Result<(), Fault>
-    requires { (b : Began) × (before : List Container) × IsUnderway b keeper.old before × AreNumbered b.first (before ++ sealed.items) × (length (before ++ sealed.items) ≤ b.limits.chunks) }
-    ensures ok { (b : Began) (before : List Container) → AreNumbered b.first (before ++ sealed.items) → length (before ++ sealed.items) ≤ b.limits.chunks
+    requires { (b : Began) × (before : List Container) × IsUnderway b keeper.old before
+        × AreNumbered b.first (before ++ sealed.items) × (length (before ++ sealed.items) ≤ b.limits.chunks) }
+    ensures ok { (b : Began) (before : List Container) → AreNumbered b.first (before ++ sealed.items)
+        → length (before ++ sealed.items) ≤ b.limits.chunks
         → IsUnderway b keeper.old before → OnOk result (IsUnderway b keeper.new (before ++ sealed.items)) }
-    ensures err { (b : Began) (before : List Container) → AreNumbered b.first (before ++ sealed.items) → length (before ++ sealed.items) ≤ b.limits.chunks
+    ensures err { (b : Began) (before : List Container) → AreNumbered b.first (before ++ sealed.items)
+        → length (before ++ sealed.items) ≤ b.limits.chunks
         → IsUnderway b keeper.old before → IfErr result (IsPutStop b keeper.new) }
     ensures waits { OnOk result (keeper.new.pending ≡ keeper.old.pending) }
     ensures named { OnOk result (AreNamed keeper.old keeper.new sealed.items) }

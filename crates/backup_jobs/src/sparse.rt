@@ -56,7 +56,8 @@ fn payloads_of<S: Shelf>(
     first: Id,
     lens: &[u32],
 ) -> Result<Vec<(Id, u32)>, Memory>
-    ensures { IfOk result (λ list. (K : Core) → Keeps keeper.now K → list.items ≡ map (λ c. (c, len_at K.state.containers first lens.now c)) ids.now) }
+    ensures { IfOk result (λ list. (K : Core) → Keeps keeper.now K
+        → list.items ≡ map (λ c. (c, len_at K.state.containers first lens.now c)) ids.now) }
 {
     let mut payloads = Vec::new(alloc);
     for id in ids {
@@ -79,7 +80,8 @@ pub(crate) fn sparse_ids<S: Shelf>(
     requires core { (K : Core) × Keeps keeper.now K }
     requires few { length rows.now < 2 ^ 32 }
     requires each { All (λ r. (1 ≤ r.len) × (r.len ≤ 65536)) rows.now }
-    ensures { IfOk result (λ list. (K : Core) → Keeps keeper.now K → list.items ≡ sparse rows.now (len_at K.state.containers first lens.now) threshold limit) }
+    ensures { IfOk result (λ list. (K : Core) → Keeps keeper.now K
+        → list.items ≡ sparse rows.now (len_at K.state.containers first lens.now) threshold limit) }
 {
     let monitor = monitor_of(alloc, rows)?;
     let payloads = payloads_of(alloc, keeper, monitor.ids(), first, lens)?;

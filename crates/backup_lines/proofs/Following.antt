@@ -9,7 +9,7 @@ use Rattle.vault_types.specs.Events.{Core, after_refused}
 use Rattle.vault_types.specs.Tables.{Container}
 use Rattle.vault_traits.specs.Told.{SourceTold}
 use Rattle.keeper_catalog.specs.View.{View, Keeps}
-use Rattle.backup_jobs.specs.Backup.{BacksUp, IsRefused, after_backup}
+use Rattle.backup_jobs.specs.Backup.{BacksUp, IsBackupRefused, after_backup}
 use Rattle.backup_jobs.specs.Going.{Began, IsUnderway, job_core}
 use Rattle.pin_laws.specs.Following.{Follows}
 use Rattle.pin_laws.proofs.Calls.{by_event}
@@ -17,7 +17,7 @@ use Rattle.pin_laws.proofs.Calls.{by_event}
 pub backup_follows : (s : ℕ) (config : JobConfig) (limits : Limits) (v w : View) (from to : SourceTold) (result : Result Answer Fault) → BacksUp s config limits v w from to result → (number : ℕ) → Follows v w number
 backup_follows s config limits v w from to result h number = at result h.done h.refused
   where
-    at : (r : Result Answer Fault) → OnOk r ((K : Core) → Keeps v K → Keeps w (after_backup s h.read config w.memo.strays w.pending K)) → IfErr r (λ f. (K : Core) → Keeps v K → IsRefused s config limits h.read v w from to K f) → Follows v w number
+    at : (r : Result Answer Fault) → OnOk r ((K : Core) → Keeps v K → Keeps w (after_backup s h.read config w.memo.strays w.pending K)) → IfErr r (λ f. (K : Core) → Keeps v K → IsBackupRefused s config limits h.read v w from to K f) → Follows v w number
     at (Ok a) done refused = by_event v w number h.tells (λ K. after_backup s h.read config w.memo.strays w.pending K) (λ K. refl) done
     at (Err f) done refused = record {
       tells = h.tells;

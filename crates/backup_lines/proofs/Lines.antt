@@ -1,5 +1,5 @@
 -- A backup's line, from what a backup ensures.
-use Rattle.std.proofs.Common.{◌≡◌, ◌⊎◌, inl, inr, ⊎_elim, ◌≤◌, ◌<◌, ◌+◌, ◌-◌, ◌*◌, ◌^◌, ℕ, Bool, true, false, IsTrue, List, [], ◌∷◌, length, Option, Some, None, refl, sym, ◌∙◌, ap, subst, arith}
+use Rattle.std.proofs.Common.{◌≡◌, ◌⊎◌, inl, inr, ⊎_elim, ◌≤◌, ◌<◌, ◌+◌, ◌-◌, ◌*◌, ◌^◌, ℕ, Bool, true, false, IsTrue, List, [], ◌∷◌, length, Option, None, refl, sym, ◌∙◌, ap, subst, arith}
 use Rattle.std.specs.Prelude.{IsSome, IsSomeAnd, IfSome, unwrap_or, Result, Ok, Err, Contains}
 use Rattle.std.proofs.lemmas.List.Elements.{Contains-push}
 use Rattle.vault_types.specs.declared.JobConfig.{JobConfig}
@@ -24,7 +24,7 @@ use Rattle.vault_traits.proofs.Moments.{more, more_now}
 use Rattle.vault_types.specs.JobRanges.{IsCuttable}
 use Rattle.keeper_catalog.specs.View.{View, Keeps, HasCore}
 use Rattle.keeper_core.specs.Calls.{IsShelfFault}
-use Rattle.store_model.specs.Calls.{BacksUpLine, IsTooMany}
+use Rattle.store_model.specs.Calls.{BacksUpLine, AreTooManyBytes}
 use Rattle.store_model.specs.Causes.{CausesRise, counts_of_source, fits}
 use Rattle.store_model.specs.Complete.{IsWell, IsWellAnswered}
 use Rattle.store_model.specs.Steps.{BearsStep, IsNextOther, StandsWith, StepsOn}
@@ -34,10 +34,10 @@ use Rattle.script_laws.proofs.Following.{near_with}
 use Rattle.script_laws.proofs.Forms.{grown_forms, still_forms}
 use Rattle.script_laws.proofs.LineLemmas.{unmoved, full_is, full_means, not_full_means}
 use Rattle.vault_types.specs.declared.Pending.TheVariants as pending
-use Rattle.serial_delete.specs.Keeping.{IsStateWith, IsKnownStray}
-use Rattle.serial_delete.proofs.Keeping.{changed_of, images_of}
+use Rattle.keeper_core.specs.Keeping.{IsStateWith, IsKnownStray}
+use Rattle.keeper_core.proofs.BetweenLines.{changed_of, images_of}
 use Rattle.backup_lines.proofs.Reading.{IsAll, is_all, whole_read, too_many}
-use Rattle.backup_jobs.specs.Backup.{BacksUp, IsRefused, IsBackupFault, IsCauseOf, MayBeHalf, after_backup, full_fault}
+use Rattle.backup_jobs.specs.Backup.{BacksUp, IsBackupRefused, IsBackupFault, IsCauseOf, MayBeHalf, after_backup, full_fault}
 use Rattle.backup_lines.proofs.Refusals.{own_number, kind_err, cause_err, exact_other, many_means}
 
 -- ---- what a crash leaves
@@ -153,7 +153,7 @@ module _ (u v : View) (ps : List Pin) (s : ℕ) (config : JobConfig) (limits : L
       },
     )
       where
-        r : IsRefused s config limits h.read u v from to K f
+        r : IsBackupRefused s config limits h.read u v from to K f
         r = h.refused K keeps
 
         failed : IsShelfFault f → IsTrue (is_store_fault (Refused f))
@@ -218,7 +218,7 @@ causes_done u v from to S s x config a is store source =
     subst (λ (b : Answer). CausesRise (counts_of_source u.told from) (counts_of_source v.told to) (b ∷ [])) (sym is) (record { store = store; place = omega arith; read = source; write = omega arith })
 
 -- too many bytes were read
-many_read : (s : ℕ) (config : JobConfig) (limits : Limits) (u v : View) (from to : SourceTold) (read : List ℕ) (K : Core) (n : ℕ) → IsCauseOf s config limits u v from to read K (fault.TooMany n) → IsTooMany limits config read to
+many_read : (s : ℕ) (config : JobConfig) (limits : Limits) (u v : View) (from to : SourceTold) (read : List ℕ) (K : Core) (n : ℕ) → IsCauseOf s config limits u v from to read K (fault.TooMany n) → AreTooManyBytes limits config read to
 many_read s config limits u v from to read K n (inl full) = absurd (let clash : fault.TooMany n ≡ fault.Full s (latest_of K.state s) (next_of K.state) = full.1 in cc)
 many_read s config limits u v from to read K n (inr why) = why.1
 

@@ -9,17 +9,17 @@ use Rattle.vault_types.specs.declared.Fault.TheVariants as fault
 use Rattle.vault_types.specs.Lists.{parts, rest}
 use Rattle.vault_types.specs.Cuts.{cuts, settled, settled_len, unsettled, only_bytes}
 use Rattle.vault_types.proofs.PartsLemmas.{parts-append}
-use Rattle.vault_traits.specs.Told.{SourceTold, Gives}
+use Rattle.vault_traits.specs.Told.{SourceTold, Gives, IsAtEnd}
 use Rattle.vault_types.specs.JobRanges.{IsCuttable}
-use Rattle.stream_cutter.proofs.Sizes.{stable}
-use Rattle.backup_jobs.specs.Backup.{IsAtEnd, IsBackupFault}
+use Rattle.vault_types.proofs.CutLemmas.{settled_len-stable}
+use Rattle.backup_jobs.specs.Backup.{IsBackupFault}
 use Rattle.backup_jobs.proofs.Limits.{too_many_bytes}
 
 -- the settled chunks of a front are no more than the chunks of the whole
 settled_few : (c : Cutting) → IsCuttable c → (x y : List ℕ) → length (settled x c) ≤ length (cuts (x ++ y) c)
 settled_few c can x y =
     let len = settled_len c in
-    let all : settled (x ++ y) c ≡ settled x c ++ parts len (rest len x ++ y) = parts-append len (stable c can) x y in
+    let all : settled (x ++ y) c ≡ settled x c ++ parts len (rest len x ++ y) = parts-append len (settled_len-stable c can) x y in
     let front : length (settled (x ++ y) c) ≡ length (settled x c) + length (parts len (rest len x ++ y)) = ap length all ∙ length-append (settled x c) (parts len (rest len x ++ y)) in
     let whole : length (cuts (x ++ y) c) ≡ length (settled (x ++ y) c) + length (only_bytes (unsettled (x ++ y) c)) = length-append (settled (x ++ y) c) (only_bytes (unsettled (x ++ y) c)) in
     omega arith

@@ -1,45 +1,31 @@
-//! A backup's line on one thread: what `serial_backup` ensures is what the line is to do (`script_laws`), in each state that
-//! the keeper keeps.
+//! That a backup is what its line is to do: from the record that any backup over a keeper ensures, whoever reads the stream.
+//! Nothing here runs.
 #![tactic(auto)]
 
-ghost use Rattle.std.specs.Prelude.{◌≡◌, ◌≤◌, ℕ, List, None};
+ghost use Rattle.std.specs.Prelude.{ℕ, List, Result};
+ghost use Rattle.vault_types.specs.declared.Answer.{Answer};
+ghost use Rattle.vault_types.specs.declared.Fault.{Fault};
+ghost use Rattle.vault_types.specs.declared.JobConfig.{JobConfig};
+ghost use Rattle.vault_types.specs.declared.Limits.{Limits};
 ghost use Rattle.vault_types.specs.Events.{Pin};
-ghost use Rattle.vault_types.specs.JobRanges.{IsInRange};
-ghost use Rattle.pin_laws.specs.Following.{Follows};
+ghost use Rattle.vault_types.specs.JobRanges.{IsCuttable};
+ghost use Rattle.vault_traits.specs.Told.{SourceTold};
 ghost use Rattle.store_model.specs.Calls.{BacksUpLine};
-ghost use Rattle.serial_delete.specs.Keeping.{IsStateWith, IsKnownStray};
+ghost use Rattle.keeper_catalog.specs.View.{HasCore, View};
+ghost use Rattle.pin_laws.specs.Following.{Follows};
+ghost use Rattle.keeper_core.specs.Keeping.{IsKnownStray, IsStateWith};
+ghost use Rattle.backup_jobs.specs.Backup.{BacksUp};
 
-use keeper_core::Keeper;
-use serial_backup::backup_plain;
-use std::alloc::Global;
-use vault_traits::{Shelf, Source};
-use vault_types::{Answer, Fault, JobConfig, Limits, Set};
-
-/// Backs what the source has left up into a set of the store, as its next version. `Full`, exactly where the set may
-/// have no version more or the ids may run out, and then nothing is done; else `Memory`, `StoreFault`, `ReadFault`,
-/// `TooMany`. After an `Err` the versions and the pins are as before; only a `StoreFault` may leave the new version on
-/// the shelf, until the next mending takes it back.
-pub fn backup_line<S: Shelf, I: Source>(
-    alloc: Global,
-    keeper: &mut Keeper<S>,
-    set: Set,
-    source: &mut I,
-    config: &JobConfig,
-    limits: &Limits,
-) -> Result<Answer, Fault>
-    requires no_job { keeper.old.job ≡ None }
-    requires config { IsInRange config.now }
-    requires low { 1 ≤ limits.now.chunks }
-    requires high { limits.now.chunks ≤ 4194304 }
-    requires last { limits.now.last ≤ 4294967294 }
-    ensures line { (pins : List Pin) → BacksUpLine (IsStateWith keeper.old pins) (IsStateWith keeper.new pins)
-        (IsKnownStray keeper.old) (IsKnownStray keeper.new) limits.now set config.now keeper.old.told keeper.new.told
-        (I.told source.old) (I.told source.new) result }
-    ensures same { (keeper.new.job ≡ None) × (keeper.new.pins ≡ keeper.old.pins) }
-
-    // Each pin stays, with its containers.
-    ensures follows { (number : ℕ) → Follows keeper.old keeper.new number }
-{
-    keeper.keeps_some_core();
-    backup_plain(alloc, keeper, set, source, config, limits)
-}
+/// A backup is what its line is to do, in each state that the keeper keeps with these pins; and each pin stays over it, with
+/// its containers.
+pub fn backups_are_their_lines()
+    ensures line { (u v : View) (set : ℕ) (config : JobConfig) (limits : Limits) (from to : SourceTold)
+        (result : Result Answer Fault) → HasCore u → IsCuttable config.cutting
+        → BacksUp set config limits u v from to result
+        → (pins : List Pin)
+        → BacksUpLine (IsStateWith u pins) (IsStateWith v pins) (IsKnownStray u) (IsKnownStray v)
+        limits set config u.told v.told from to result }
+    ensures follows { (set : ℕ) (config : JobConfig) (limits : Limits) (u v : View) (from to : SourceTold)
+        (result : Result Answer Fault) → BacksUp set config limits u v from to result → (number : ℕ)
+        → Follows u v number }
+{}

@@ -8,7 +8,8 @@ use Rattle.segmenter.proofs.Shapes.{pieces-next}
 use Rattle.vault_types.specs.declared.JobConfig.{JobConfig}
 use Rattle.vault_types.specs.Names.{NamedChunk}
 use Rattle.vault_types.specs.Decide.{segments_of}
-use Rattle.backup_pass.specs.Placing.{only_segment, size_of}
+use Rattle.container_fill.specs.Filling.{size_of}
+use Rattle.backup_pass.specs.Placing.{only_segment}
 
 in_last-push : (done : List (List NamedChunk)) (d : NamedChunk) (ds : List NamedChunk) (c : NamedChunk) → in_last (done ++ (d ∷ ds) ∷ []) c ≡ done ++ (d ∷ ds ++ c ∷ []) ∷ []
 in_last-push [] d ds c = refl

@@ -13,9 +13,9 @@ use Rattle.vault_types.specs.Decide.{Rules, look_up, decisions_of, segments_of, 
 use Rattle.vault_types.proofs.BackupLemmas.{joined-pieces}
 use Rattle.fp_index.specs.Index.{found_in}
 use Rattle.rewrite_stage.specs.Deciding.{Deciding, HasDecided, looked_up}
-use Rattle.container_fill.specs.Filling.{Filling, HasFilled}
+use Rattle.container_fill.specs.Filling.{Filling, HasFilled, size_of}
 use Rattle.backup_pass.specs.declared.placer.Placer.{Placer}
-use Rattle.backup_pass.specs.Placing.{HasPlaced, only_segment, size_of, joined, places_in, hows_at, answers_of}
+use Rattle.backup_pass.specs.Placing.{HasPlaced, only_segment, joined, places_in, hows_at, answers_of}
 use Rattle.backup_pass.proofs.Segments.{same_segment, new_segment}
 use Rattle.backup_pass.proofs.Decisions.{places-only, joined-only}
 

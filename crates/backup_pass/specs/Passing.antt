@@ -31,9 +31,10 @@ index_in p = index_of p.placer
 abbrev pub answers_in : Pass → Fp → Option ℕ
 answers_in p = answers_of p.placer
 
--- the pass was fed the bytes x by these rules, with this limit, its first container has the id first, and it gave these
--- containers out
-pub record HasPassed (p : Pass) (r : Rules) (most first : ℕ) (x : List ℕ) (gone : List Container) : Type 0 where
+-- the pass was fed the bytes x by these rules, with this limit, its first container has the id
+-- first, and it gave these containers out
+pub record HasPassed (p : Pass) (r : Rules) (most first : ℕ) (x : List ℕ)
+    (gone : List Container) : Type 0 where
   pub cuttable : IsCuttable r.config.cutting
   pub chunks : List (List ℕ)
   pub cut : HasCut p.chunker chunks x

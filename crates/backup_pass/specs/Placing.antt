@@ -9,11 +9,11 @@ use Rattle.segmenter.specs.Segments.{HasPushed}
 use Rattle.fp_index.specs.Index.{found_in}
 use Rattle.rewrite_stage.specs.declared.Decided.{Decided}
 use Rattle.rewrite_stage.specs.Deciding.{HasDecided}
-use Rattle.container_fill.specs.Filling.{HasFilled}
+use Rattle.container_fill.specs.Filling.{HasFilled, size_of}
 use Rattle.backup_pass.specs.declared.placer.Placer.{Placer}
 
-abbrev pub chunk_in : Decided → NamedChunk
-chunk_in d = named_chunk d.chunk
+abbrev pub decided_chunk : Decided → NamedChunk
+decided_chunk d = named_chunk d.chunk
 
 abbrev pub hows_of : List Decided → List How
 hows_of ds = map (λ d. d.how) ds
@@ -25,9 +25,6 @@ hows_at places = map (λ p. p.1) places
 abbrev pub only_segment : List NamedChunk → List (List NamedChunk)
 only_segment [] = []
 only_segment (c ∷ cs) = (c ∷ cs) ∷ []
-
-abbrev pub size_of : NamedChunk → ℕ
-size_of c = length c.bytes
 
 -- the chunks of some segments
 abbrev pub joined : List (List NamedChunk) → List NamedChunk
@@ -45,8 +42,10 @@ index_of p = p.decider.index
 abbrev pub answers_of : Placer → Fp → Option ℕ
 answers_of p f = found_in (index_of p) f
 
--- the placer took these chunks by these rules, its first container has the id first, and it gave these containers out
-pub record HasPlaced (p : Placer) (r : Rules) (first : ℕ) (chunks : List NamedChunk) (gone : List Container) : Type 0 where
+-- the placer took these chunks by these rules, its first container has the id first, and it gave
+-- these containers out
+pub record HasPlaced (p : Placer) (r : Rules) (first : ℕ) (chunks : List NamedChunk)
+    (gone : List Container) : Type 0 where
   pub pushed : HasPushed p.segmenter r.config.segment (map size_of chunks)
   pub done : List (List NamedChunk)
   pub split : segments_of r.config chunks ≡ done ++ only_segment (map named_chunk p.segment.items)

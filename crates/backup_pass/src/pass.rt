@@ -71,7 +71,10 @@ fn place_all(
 ) -> Result<(), Fault>
     ensures placed { (r : Rules) (first : ℕ) (taken : List NamedChunk) (gone : List Container)
         → HasPlaced placer.old r first taken (gone ++ out.old.items)
-        → OnOk result (HasPlaced placer.new r first (taken ++ map named_chunk (filter is_chunk (bytes_of_all chunks.items))) (gone ++ out.new.items)) }
+        → OnOk result
+        (HasPlaced placer.new r first
+        (taken ++ map named_chunk (filter is_chunk (bytes_of_all chunks.items)))
+        (gone ++ out.new.items)) }
     ensures index { index_of placer.new ≡ index_of placer.old }
     ensures count { OnOk result (count.new ≡ count.old + length chunks.items) }
     ensures within { count.old ≤ limit → OnOk result (count.new ≤ limit) }
@@ -99,8 +102,15 @@ fn place_last(
     ensures index { result.0 ≡ index_of placer }
     ensures filled { (r : Rules) (first : ℕ) (taken : List NamedChunk) (gone : List Container)
         → HasPlaced placer r first taken (gone ++ out.old.items)
-        → IfOk result.1 (λ f. IsFilledBy (option_to_list f.last) f.rows f.next f.containers f.written first (gone ++ out.new.items) (length (taken ++ map named_chunk (filter is_chunk (bytes_of_all chunks.items))))
-        (fill first (taken ++ map named_chunk (filter is_chunk (bytes_of_all chunks.items))) (decide (answers_of placer) r (taken ++ map named_chunk (filter is_chunk (bytes_of_all chunks.items)))) r.config.container)) }
+        → IfOk result.1
+        (λ f.
+        IsFilledBy (option_to_list f.last) f.rows f.next f.containers f.written first
+        (gone ++ out.new.items)
+        (length (taken ++ map named_chunk (filter is_chunk (bytes_of_all chunks.items))))
+        (fill first (taken ++ map named_chunk (filter is_chunk (bytes_of_all chunks.items)))
+        (decide (answers_of placer) r
+        (taken ++ map named_chunk (filter is_chunk (bytes_of_all chunks.items))))
+        r.config.container)) }
     ensures within { count ≤ limit → OnOk result.1 (count + length chunks.items ≤ limit) }
     ensures causes { IfErr result.1 (IsPassFault limit (count + length chunks.items)) }
 {
@@ -134,7 +144,8 @@ impl Pass {
         requires high { next ≤ 2 ^ 63 }
         requires some { 1 ≤ config.container }
         requires most { config.container ≤ 4194304 }
-        ensures passed { HasPassed result (record { sparse = sparse.items; config = config }) limit next [] [] }
+        ensures passed { HasPassed result (record { sparse = sparse.items; config = config }) limit next []
+            [] }
         ensures index { index_in result ≡ index }
     {
         Pass {
@@ -154,7 +165,8 @@ impl Pass {
             → OnOk result (HasPassed self.new r limit first (x ++ piece.now) (gone ++ out.new.items)) }
         ensures index { index_in self.new ≡ index_in self.old }
         ensures causes { (r : Rules) (limit first : ℕ) (x : List ℕ) (gone : List Container)
-            → HasPassed self.old r limit first x gone → IfErr result (IsPassFault limit (length (settled (x ++ piece.now) r.config.cutting))) }
+            → HasPassed self.old r limit first x gone
+            → IfErr result (IsPassFault limit (length (settled (x ++ piece.now) r.config.cutting))) }
     {
         self.sum.add(piece);
         let mut chunks = Vec::new(alloc);
@@ -176,10 +188,15 @@ impl Pass {
         ensures passed { (r : Rules) (limit first : ℕ) (x : List ℕ) (gone : List Container)
             → HasPassed self r limit first x (gone ++ out.old.items)
             → IfOk result.1 (λ p. (p.whole ≡ fp x) × (length (cuts x r.config.cutting) ≤ limit)
-            × IsFilledBy (option_to_list p.filled.last) p.filled.rows p.filled.next p.filled.containers p.filled.written first (gone ++ out.new.items) (length (map named_chunk (cuts x r.config.cutting)))
-            (fill first (map named_chunk (cuts x r.config.cutting)) (decide (answers_in self) r (map named_chunk (cuts x r.config.cutting))) r.config.container)) }
+            × IsFilledBy (option_to_list p.filled.last) p.filled.rows p.filled.next p.filled.containers
+            p.filled.written first (gone ++ out.new.items)
+            (length (map named_chunk (cuts x r.config.cutting)))
+            (fill first (map named_chunk (cuts x r.config.cutting))
+            (decide (answers_in self) r (map named_chunk (cuts x r.config.cutting)))
+            r.config.container)) }
         ensures causes { (r : Rules) (limit first : ℕ) (x : List ℕ) (gone : List Container)
-            → HasPassed self r limit first x gone → IfErr result.1 (IsPassFault limit (length (cuts x r.config.cutting))) }
+            → HasPassed self r limit first x gone
+            → IfErr result.1 (IsPassFault limit (length (cuts x r.config.cutting))) }
     {
         let Pass {
             chunker,

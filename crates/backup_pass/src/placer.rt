@@ -8,7 +8,7 @@ ghost use Rattle.vault_types.specs.Decide.{Rules, decide, decisions_of};
 ghost use Rattle.vault_types.specs.Fill.{fill};
 ghost use Rattle.rewrite_stage.specs.Deciding.{HasDecided, looked_up};
 ghost use Rattle.container_fill.specs.Filling.{HasFilled, IsFilledBy};
-ghost use Rattle.backup_pass.specs.Placing.{HasPlaced, chunk_in, hows_of, hows_at, answers_of, index_of};
+ghost use Rattle.backup_pass.specs.Placing.{HasPlaced, decided_chunk, hows_of, hows_at, answers_of, index_of};
 
 use container_fill::{Filled, Filler};
 use container_store::Sealed;
@@ -38,7 +38,9 @@ fn fill_all(
 ) -> Result<(), Memory>
     ensures filled { (first : ℕ) (gone : List Container) (chunks : List NamedChunk) (hows : List Hows)
         → HasFilled filler.old first (gone ++ out.old.items) chunks hows
-        → OnOk result (HasFilled filler.new first (gone ++ out.new.items) (chunks ++ map chunk_in decided.items) (hows ++ hows_of decided.items)) }
+        → OnOk result
+        (HasFilled filler.new first (gone ++ out.new.items) (chunks ++ map decided_chunk decided.items)
+        (hows ++ hows_of decided.items)) }
     ensures capacity { OnOk result (filler.new.capacity ≡ filler.old.capacity) }
 {
     for one in decided {
@@ -60,10 +62,14 @@ fn place_segment(
 ) -> Result<(), Memory>
     ensures index { decider.new.index ≡ decider.old.index }
     ensures decided { (r : Rules) (places : List (Print × Hows)) → HasDecided decider.old r places
-        → OnOk result (HasDecided decider.new r (decisions_of r places (looked_up decider.old.index segment.items))) }
-    ensures filled { (r : Rules) (places : List (Print × Hows)) (first : ℕ) (gone : List Container) (chunks : List NamedChunk)
-        → HasDecided decider.old r places → HasFilled filler.old first (gone ++ out.old.items) chunks (hows_at places)
-        → OnOk result (HasFilled filler.new first (gone ++ out.new.items) (chunks ++ map named_chunk segment.items)
+        → OnOk result
+        (HasDecided decider.new r (decisions_of r places (looked_up decider.old.index segment.items))) }
+    ensures filled { (r : Rules) (places : List (Print × Hows)) (first : ℕ) (gone : List Container)
+        (chunks : List NamedChunk)
+        → HasDecided decider.old r places
+        → HasFilled filler.old first (gone ++ out.old.items) chunks (hows_at places)
+        → OnOk result
+        (HasFilled filler.new first (gone ++ out.new.items) (chunks ++ map named_chunk segment.items)
         (hows_at (decisions_of r places (looked_up decider.old.index segment.items)))) }
     ensures capacity { OnOk result (filler.new.capacity ≡ filler.old.capacity) }
 {
@@ -94,7 +100,8 @@ impl Placer {
     pub fn take(&mut self, alloc: Global, chunk: Chunk, out: &mut Vec<Sealed>) -> Result<(), Memory>
         ensures placed { (r : Rules) (first : ℕ) (chunks : List NamedChunk) (gone : List Container)
             → HasPlaced self.old r first chunks (gone ++ out.old.items)
-            → OnOk result (HasPlaced self.new r first (chunks ++ named_chunk chunk ∷ []) (gone ++ out.new.items)) }
+            → OnOk result
+            (HasPlaced self.new r first (chunks ++ named_chunk chunk ∷ []) (gone ++ out.new.items)) }
         ensures index { index_of self.new ≡ index_of self.old }
     {
         match self.segmenter.push(chunk.len()) {
@@ -117,7 +124,10 @@ impl Placer {
         ensures index { result.0 ≡ index_of self }
         ensures filled { (r : Rules) (first : ℕ) (chunks : List NamedChunk) (gone : List Container)
             → HasPlaced self r first chunks (gone ++ out.old.items)
-            → IfOk result.1 (λ f. IsFilledBy (option_to_list f.last) f.rows f.next f.containers f.written first (gone ++ out.new.items) (length chunks)
+            → IfOk result.1
+            (λ f.
+            IsFilledBy (option_to_list f.last) f.rows f.next f.containers f.written first
+            (gone ++ out.new.items) (length chunks)
             (fill first chunks (decide (answers_of self) r chunks) r.config.container)) }
     {
         let Placer {

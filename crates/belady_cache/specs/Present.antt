@@ -26,10 +26,12 @@ replaced id new present = map (λ h. if h.id == id then new else h) present
 
 -- with new in a free slot, or else in that of the one that is requested last, and the steps to this
 abbrev pub with_slot : ℕ → Held → List Held → List Held
-with_slot slots new present = if nat_lt (length present) slots then present ++ new ∷ [] else replaced (farthest_of present) new present
+with_slot slots new present =
+    if nat_lt (length present) slots then present ++ new ∷ [] else replaced (farthest_of present) new present
 
 abbrev pub steps_to_load : ℕ → ℕ → List Held → List Step
-steps_to_load slots id present = if nat_lt (length present) slots then Load id ∷ [] else Evict (farthest_of present) ∷ Load id ∷ []
+steps_to_load slots id present =
+    if nat_lt (length present) slots then Load id ∷ [] else Evict (farthest_of present) ∷ Load id ∷ []
 
 -- what is present once a request is served, and the steps to this
 abbrev pub present_after : ℕ → Held → List Held → List Held
@@ -39,4 +41,5 @@ present_after slots new present =
 
 abbrev pub steps_of : ℕ → Held → List Held → List Step
 steps_of slots new present =
-    (if is_present new.id present then [] else steps_to_load slots new.id (replaced new.id new present)) ++ Serve ∷ []
+    (if is_present new.id present then [] else steps_to_load slots new.id (replaced new.id new present))
+    ++ Serve ∷ []

@@ -59,7 +59,8 @@ fn load(
 ) -> Result<(), Memory>
     requires { 1 ≤ slots }
     ensures present { OnOk result (present.new.items ≡ with_slot slots new present.old.items) }
-    ensures steps { OnOk result (steps.new.items ≡ steps.old.items ++ steps_to_load slots new.id present.old.items) }
+    ensures steps { OnOk result
+        (steps.new.items ≡ steps.old.items ++ steps_to_load slots new.id present.old.items) }
 {
     if present.len() < slots {
         present.push(new)?;

@@ -24,7 +24,8 @@ has_end (Some n ∷ xs) = has_end xs
 abbrev pub moves_of : Relaying → ℕ
 moves_of s = length s.from.taken + length s.to.sent
 
--- what a turn tells: it took or sent one item; nothing changed; nothing changed, and all is sent, with the end
+-- what a turn tells: it took or sent one item; nothing changed; nothing changed, and all is sent,
+-- with the end
 abbrev pub Tells : Relaying → Turn → Relaying → Type 0
 Tells a Moved b = moves_of b ≡ moves_of a + 1
 Tells a Idle b = b ≡ a

@@ -1,33 +1,88 @@
 // Cutting by extremum, alone: the time in `feed` of all pieces of standard input.
-use crate::watch::{Stop, nanos, rate};
+use crate::watch::{Stop, Watch, rate};
 use chunk_ae::Ae;
 use folder_shelf::InSource;
-use std::time::Instant;
+use std::alloc::Global;
 use vault_traits::Source;
 
-pub fn run(rt: HostRuntime) -> Result<(), Stop> {
-    let alloc = rt.alloc();
+// The bytes of pieces, how many chunks ended in them, and the nanoseconds that took.
+#[derive(Clone, Copy)]
+struct Pieces {
+    bytes: u64,
+    chunks: u64,
+    took: u64,
+}
+
+fn feed(alloc: Global, chunker: &mut Ae, piece: &[u8]) -> Result<Vec<Vec<u8>>, Stop> {
+    let mut chunks = Vec::new(alloc);
+    chunker.feed(alloc, piece, &mut chunks)?;
+    Ok(chunks)
+}
+
+// Of one piece, with no bytes at the end of the source.
+fn next_piece(
+    rt: HostRuntime,
+    source: &mut InSource,
+    room: &mut [u8],
+    chunker: &mut Ae,
+    watch: &mut Watch,
+) -> Result<Pieces, Stop> {
+    if room.is_empty() {
+        return Err(Stop::Refused);
+    }
+    let n = source.read(room)?;
+    let _reading = watch.lap(rt);
+    let chunks = feed(rt.alloc(), chunker, &room[..n])?;
+    let took = watch.lap(rt);
+    Ok(Pieces {
+        bytes: n as u64,
+        chunks: chunks.len() as u64,
+        took,
+    })
+}
+
+fn add(all: Pieces, one: Pieces) -> Pieces {
+    Pieces {
+        bytes: all.bytes.saturating_add(one.bytes),
+        chunks: all.chunks.saturating_add(one.chunks),
+        took: all.took.saturating_add(one.took),
+    }
+}
+
+fn cut(rt: HostRuntime) -> Result<Pieces, Stop> {
     let mut source = InSource::new(rt.stdin());
-    let mut room = Vec::with_capacity(alloc, 65_536)?;
-    room.resize(65_536, 0)?;
-    let piece = room.as_mut_slice();
+    let mut room = vec![in rt.alloc(); 0u8; 65_536]?;
     let mut chunker = Ae::new(4096, 65_536);
-    let mut took = 0u64;
-    let mut bytes = 0u64;
-    let mut count = 0u64;
+    let mut watch = Watch::start(rt)?;
+    let mut all = Pieces {
+        bytes: 0,
+        chunks: 0,
+        took: 0,
+    };
     for _turn in 0..u64::MAX {
-        let n = source.read(piece)?;
-        if n == 0 {
+        let one = next_piece(
+            rt,
+            &mut source,
+            room.as_mut_slice(),
+            &mut chunker,
+            &mut watch,
+        )?;
+        if one.bytes == 0 {
             break;
         }
-        let start = Instant::now(&rt)?;
-        let mut chunks = Vec::new(alloc);
-        chunker.feed(alloc, &piece[..n], &mut chunks)?;
-        took = took.saturating_add(nanos(&rt, &start)?);
-        bytes = bytes.saturating_add(n as u64);
-        count = count.saturating_add(chunks.len() as u64);
+        all = add(all, one);
     }
+    watch.end()?;
+    Ok(all)
+}
+
+pub fn run(rt: HostRuntime) -> Result<(), Stop> {
+    let Pieces {
+        bytes,
+        chunks,
+        took,
+    } = cut(rt)?;
     let rate = rate(bytes, took);
-    println!(rt; "cut: {bytes} bytes, {count} chunks, {rate} MB/s")?;
+    println!(rt; "cut: {bytes} bytes, {chunks} chunks, {rate} MB/s")?;
     Ok(())
 }

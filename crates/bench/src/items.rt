@@ -1,13 +1,13 @@
 // Numbers through a line between two threads.
-use crate::watch::{Stop, nanos};
+ghost use Rattle.std.specs.Prelude.{◌≤◌};
+
+use crate::watch::{Stop, Watch};
 use stage_queue::{Rx, Tx, line};
 use stage_threads::BackOff;
-use std::alloc::Global;
-use std::io::Print;
 use std::sync::Wait;
 use std::thread;
 use std::thread::Threads;
-use std::time::{Clock, Instant};
+use std::time::Clock;
 
 const NUMBERS: u64 = 1_000_000;
 
@@ -47,17 +47,37 @@ fn take<R: Wait + Clock>(rt: &R, mut rx: Rx<Option<u64>>) -> u64 {
     unreachable!()
 }
 
-pub fn run<R>(rt: R, alloc: Global) -> Result<(), Stop>
-where
-    R: Print + Clock + Threads + Wait + Copy + Drop + Send + Sync,
+fn sent<R: Threads + Wait + Clock + Sync>(rt: &R, tx: Tx<Option<u64>>, rx: Rx<Option<u64>>) -> u64 {
+    let ((), came) = thread::join(rt, move || send(rt, tx), move || take(rt, rx));
+    came
+}
+
+// The nanoseconds of all numbers through a line, and how many came.
+fn time_line<R: Threads + Wait + Clock + Sync>(
+    rt: &R,
+    host: HostRuntime,
+    capacity: u32,
+) -> Result<(u64, u64), Stop>
+    requires { 1 ≤ capacity }
 {
+    let (_, tx, rx) = line::<Option<u64>>(host.alloc(), capacity)?;
+    let mut watch = Watch::start(host)?;
+    let came = sent(rt, tx, rx);
+    let took = watch.lap(host);
+    watch.end()?;
+    Ok((took, came))
+}
+
+fn show_line(rt: HostRuntime, capacity: u32, took: u64, came: u64) -> Result<(), Stop> {
+    let rate = came.saturating_mul(1_000_000) / (took / 1_000).max(1);
+    println!(rt; "line of {capacity}: {came} numbers in order, {rate} a second")?;
+    Ok(())
+}
+
+pub fn run<R: Threads + Wait + Clock + Sync>(rt: &R, host: HostRuntime) -> Result<(), Stop> {
     for capacity in [1u32, 64, 1_024] {
-        let (_, tx, rx) = line::<Option<u64>>(alloc, capacity)?;
-        let start = Instant::now(&rt)?;
-        let ((), came) = thread::join(&rt, move || send(&rt, tx), move || take(&rt, rx));
-        let took = nanos(&rt, &start)?;
-        let rate = came.saturating_mul(1_000_000) / (took / 1_000).max(1);
-        println!(rt; "line of {capacity}: {came} numbers in order, {rate} a second")?;
+        let (took, came) = time_line(rt, host, capacity)?;
+        show_line(host, capacity, took, came)?;
     }
     Ok(())
 }

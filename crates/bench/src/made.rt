@@ -1,8 +1,7 @@
 // Data that is made up, the same in each run.
-ghost use Rattle.std.specs.Prelude.{◌≤◌};
-
 use crate::watch::Stop;
 use fingerprint_stage::{Chunk, name};
+use fp_index::Index;
 use std::alloc::Global;
 use vault_types::list::ListOf;
 use vault_types::{Fp, Id, Memory, Table, TableRow};
@@ -39,13 +38,28 @@ pub fn table_of(alloc: Global, id: Id, first: u64, rows: u64) -> Result<Table, M
     })
 }
 
-/// A chunk of `len` bytes, 16 to 65,536, made of a number.
-pub fn chunk_of(alloc: Global, number: u64, len: usize) -> Result<Chunk, Stop>
-    requires some { 16 ≤ len }
-    requires most { len ≤ 65536 }
-{
-    let mut bytes = Vec::with_capacity(alloc, len)?;
-    bytes.resize(len, (number % 256) as u8)?;
-    bytes.as_mut_slice()[..8].copy_from_slice(&number.to_be_bytes());
+/// An index of so many containers of so many rows each, whose fingerprints are those of the numbers from 0 on.
+pub fn index_of(alloc: Global, containers: u64, rows: u64) -> Result<Index, Stop> {
+    let mut index = Index::from_tables(alloc, &[])?;
+    for place in 0..containers {
+        let table = table_of(alloc, place.wrapping_add(1), place.wrapping_mul(rows), rows)?;
+        index.add_container(alloc, &table)?;
+    }
+    Ok(index)
+}
+
+fn bytes_of(alloc: Global, number: u64, len: usize) -> Result<Vec<u8>, Stop> {
+    let mut bytes = Vec::with_capacity(alloc, len.max(8))?;
+    bytes.extend_from_slice(&number.to_be_bytes())?;
+    bytes.resize(len.max(8), (number % 256) as u8)?;
+    Ok(bytes)
+}
+
+/// A chunk of `len` bytes, 8 to 65,536, made of a number.
+pub fn chunk_of(alloc: Global, number: u64, len: usize) -> Result<Chunk, Stop> {
+    let bytes = bytes_of(alloc, number, len)?;
+    if bytes.is_empty() || bytes.len() > 65_536 {
+        return Err(Stop::Refused);
+    }
     Ok(name(bytes))
 }

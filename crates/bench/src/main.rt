@@ -21,46 +21,49 @@ mod store;
 mod watch;
 
 use crate::store::{show_store, time_store};
-use crate::watch::Stop;
-use std::alloc::Global;
+use crate::watch::{Stop, Watch};
 use std::env;
-use std::env::Env;
-use std::io::Print;
 use std::process::ExitCode;
 use std::sync::Wait;
 use std::thread::Threads;
-use std::time::{Clock, Duration, Instant};
+use std::time::{Clock, Duration};
 
 fn main(rt: HostRuntime) -> ExitCode {
-    match run(rt, rt, rt.alloc()) {
+    match run(rt, rt) {
         Ok(()) => ExitCode::SUCCESS,
         Err(_) => ExitCode::FAILURE,
     }
 }
 
-// `host` is the same runtime, for what starts no thread.
-fn run<R>(rt: R, host: HostRuntime, alloc: Global) -> Result<(), Stop>
-where
-    R: Env + Print + Clock + Threads + Wait + Copy + Drop + Send + Sync,
-{
-    let mut words = env::args(&(rt, alloc))?.skip(1);
-    let Some(word) = words.next() else {
-        carry(rt, alloc)?;
-        return show_store(host);
-    };
-    match word.as_str() {
-        "keeper" => match words.next() {
-            Some(versions) => time_keeper(host, versions.as_str()),
-            None => Err(Stop::Refused),
-        },
-        "items" => items::run(rt, alloc),
-        "wait" => wait(rt, alloc),
-        "carry" => carry(rt, alloc),
-        other => time_stage(host, other),
+// The words after the program's name.
+fn words_of(rt: HostRuntime) -> Result<Vec<String>, Stop> {
+    Ok(env::args(&rt)?.skip(1).collect(rt.alloc())?)
+}
+
+// A word, empty where it is not there.
+fn word(words: &[String], place: usize) -> &str {
+    match words.get(place) {
+        Some(word) => word.as_str(),
+        None => "",
     }
 }
 
-fn time_stage(rt: HostRuntime, word: &str) -> Result<(), Stop> {
+// `host` is the same runtime, for what starts no thread.
+fn run<R: Threads + Wait + Clock + Copy + Drop + Send + Sync>(
+    rt: R,
+    host: HostRuntime,
+) -> Result<(), Stop> {
+    let words = words_of(host)?;
+    match word(words.as_slice(), 0) {
+        "" => show(rt, host),
+        "items" => items::run(&rt, host),
+        "wait" => wait(rt, host),
+        "carry" => carry(rt, host),
+        other => time_stage(host, other, word(words.as_slice(), 1)),
+    }
+}
+
+fn time_stage(rt: HostRuntime, word: &str, versions: &str) -> Result<(), Stop> {
     match word {
         "cut" => cut::run(rt),
         "find" => find::run(rt),
@@ -68,6 +71,7 @@ fn time_stage(rt: HostRuntime, word: &str) -> Result<(), Stop> {
         "growth" => decide::growth(rt),
         "plan" => plan::run(rt),
         "recipe" => recipe::run(rt),
+        "keeper" => time_keeper(rt, versions),
         _ => Err(Stop::Refused),
     }
 }
@@ -79,24 +83,38 @@ fn time_keeper(rt: HostRuntime, versions: &str) -> Result<(), Stop> {
     }
 }
 
-fn wait<R>(rt: R, alloc: Global) -> Result<(), Stop>
-where
-    R: Print + Clock + Threads + Wait + Copy + Drop + Send,
-{
-    let start = Instant::now(&rt)?;
-    let came = row::carried(rt, alloc, 64, 1_000, Duration::from_secs(1))?;
-    let took = watch::nanos(&rt, &start)? / 1_000_000;
-    println!(rt; "wait: {came} numbers in {took} ms")?;
+fn show<R: Threads + Wait + Clock + Copy + Drop + Send>(
+    rt: R,
+    host: HostRuntime,
+) -> Result<(), Stop> {
+    carry(rt, host)?;
+    show_store(host)
+}
+
+fn wait<R: Threads + Wait + Clock + Copy + Drop + Send>(
+    rt: R,
+    host: HostRuntime,
+) -> Result<(), Stop> {
+    let mut watch = Watch::start(host)?;
+    let came = row::carried(rt, host.alloc(), 64, 1_000, Duration::from_secs(1))?;
+    let took = watch.lap(host) / 1_000_000;
+    watch.end()?;
+    println!(host; "wait: {came} numbers in {took} ms")?;
     Ok(())
 }
 
-fn carry<R>(rt: R, alloc: Global) -> Result<(), Stop>
-where
-    R: Print + Clock + Threads + Wait + Copy + Drop + Send,
-{
+fn show_carried(rt: HostRuntime, capacity: u32, came: u64) -> Result<(), Stop> {
+    println!(rt; "carry: {came} numbers through lines of {capacity}")?;
+    Ok(())
+}
+
+fn carry<R: Threads + Wait + Clock + Copy + Drop + Send>(
+    rt: R,
+    host: HostRuntime,
+) -> Result<(), Stop> {
     for capacity in [1, 64] {
-        let came = row::carried(rt, alloc, capacity, 20_000, Duration::from_secs(0))?;
-        println!(rt; "carry: {came} numbers through lines of {capacity}")?;
+        let came = row::carried(rt, host.alloc(), capacity, 20_000, Duration::from_secs(0))?;
+        show_carried(host, capacity, came)?;
     }
     Ok(())
 }

@@ -1,27 +1,44 @@
 // Planning a restore: the optimal plan, beside least recently used and one load a request. The series drift as versions
 // do: runs of neighbouring containers, with jumps back to old ones.
 use crate::made::next;
-use crate::watch::{Stop, nanos};
+use crate::watch::{Stop, Watch};
 use std::alloc::Global;
-use std::time::Instant;
 use vault_types::Memory;
 
-// Requests of `containers` containers: mostly the one after the last or one shortly before it, now and then any.
+// The container after `at`: mostly the next or one shortly before it, now and then any.
+fn drifted(at: u64, pick: u64, containers: u64) -> u64 {
+    match pick % 16 {
+        0 => (pick / 16) % containers.max(1),
+        1..=6 => at.saturating_sub((pick / 16) % 40),
+        _ => at.wrapping_add(1) % containers.max(1),
+    }
+}
+
 fn drifting(alloc: Global, count: u64, containers: u64) -> Result<Vec<u64>, Memory> {
     let mut reqs = Vec::new(alloc);
     let mut state = 1u64;
     let mut at = 0u64;
     for _i in 0..count {
         state = next(state);
-        let pick = state >> 33;
-        at = match pick % 16 {
-            0 => (pick / 16) % containers.max(1),
-            1..=6 => at.saturating_sub((pick / 16) % 40),
-            _ => at.wrapping_add(1) % containers.max(1),
-        };
+        at = drifted(at, state >> 33, containers);
         reqs.push(at.wrapping_add(1))?;
     }
     Ok(reqs)
+}
+
+fn place_of(present: &[u64], id: u64) -> Option<usize> {
+    for (at, one) in present.iter().enumerate() {
+        if *one == id {
+            return Some(at);
+        }
+    }
+    None
+}
+
+fn remove(present: &mut Vec<u64>, at: usize) {
+    if at < present.len() {
+        present.remove(at);
+    }
 }
 
 // How many loads least recently used needs.
@@ -29,14 +46,12 @@ fn lru_loads(alloc: Global, reqs: &[u64], slots: usize) -> Result<u64, Memory> {
     let mut present: Vec<u64> = Vec::new(alloc);
     let mut loads = 0u64;
     for id in reqs {
-        match present.iter().position(|one| one == id) {
-            Some(at) => {
-                present.remove(at);
-            }
+        match place_of(present.as_slice(), *id) {
+            Some(at) => remove(&mut present, at),
             None => {
                 loads = loads.saturating_add(1);
-                if !present.is_empty() && present.len() >= slots {
-                    present.remove(0);
+                if present.len() >= slots {
+                    remove(&mut present, 0);
                 }
             }
         }
@@ -45,19 +60,31 @@ fn lru_loads(alloc: Global, reqs: &[u64], slots: usize) -> Result<u64, Memory> {
     Ok(loads)
 }
 
-pub fn run(rt: HostRuntime) -> Result<(), Stop> {
-    let alloc = rt.alloc();
-    let reqs = drifting(alloc, 1_000_000, 5_000)?;
+// How many loads the optimal plan needs.
+fn planned(alloc: Global, reqs: &[u64], slots: u32) -> Result<u64, Stop> {
+    if slots < 1 || slots > 64 {
+        return Err(Stop::Refused);
+    }
+    Ok(belady_cache::plan(alloc, reqs, slots)?.loads)
+}
+
+fn show_plan(rt: HostRuntime, reqs: &[u64], slots: u32) -> Result<(), Stop> {
+    let mut watch = Watch::start(rt)?;
+    let loads = planned(rt.alloc(), reqs, slots)?;
+    let took = watch.lap(rt) / 1_000_000;
+    watch.end()?;
+    let lru = lru_loads(rt.alloc(), reqs, slots as usize)?;
     let each = reqs.len();
-    for (slots, room) in [(1u32, 1usize), (4, 4), (16, 16), (64, 64)] {
-        let start = Instant::now(&rt)?;
-        let planned = belady_cache::plan(alloc, reqs.as_slice(), slots)?;
-        let took = nanos(&rt, &start)? / 1_000_000;
-        let loads = planned.loads;
-        let lru = lru_loads(alloc, reqs.as_slice(), room)?;
-        println!(rt;
-            "plan: {slots} slots: {loads} loads in {took} ms, least recently used {lru}, one a request {each}"
-        )?;
+    println!(rt;
+        "plan: {slots} slots: {loads} loads in {took} ms, least recently used {lru}, one a request {each}"
+    )?;
+    Ok(())
+}
+
+pub fn run(rt: HostRuntime) -> Result<(), Stop> {
+    let reqs = drifting(rt.alloc(), 1_000_000, 5_000)?;
+    for slots in [1u32, 4, 16, 64] {
+        show_plan(rt, reqs.as_slice(), slots)?;
     }
     Ok(())
 }

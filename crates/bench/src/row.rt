@@ -34,7 +34,9 @@ impl Model for Row {
 
     ghost view = { λ r. record { sent = r.near.sent; taken = r.far.taken } };
 
-    ghost invariant = { λ r. (r.near.line ≡ r.inward) × (r.first.first.from.line ≡ r.inward) × (r.first.first.to.line ≡ r.between) × (r.second.first.from.line ≡ r.between) × (r.second.first.to.line ≡ r.outward) × (r.far.line ≡ r.outward) };
+    ghost invariant = { λ r. (r.near.line ≡ r.inward) × (r.first.first.from.line ≡ r.inward)
+        × (r.first.first.to.line ≡ r.between) × (r.second.first.from.line ≡ r.between)
+        × (r.second.first.to.line ≡ r.outward) × (r.far.line ≡ r.outward) };
 }
 
 impl Row {
@@ -128,6 +130,16 @@ impl Row {
     }
 }
 
+// The number that is sent next, and none behind the last.
+fn item_of(sent: u64, count: u64) -> Option<u64> {
+    if sent < count { Some(sent) } else { None }
+}
+
+// Sends the next number, and tells whether it went in.
+fn send<R: Wait>(rt: &R, row: &mut Row, sent: u64, count: u64) -> bool {
+    sent <= count && row.offer(rt, item_of(sent, count)).is_ok()
+}
+
 // Sends the numbers 0 to `count - 1` and then the end, and tells how many came out.
 fn carry<R: Wait + Clock>(rt: &R, row: &mut Row, count: u64) -> u64 {
     let mut sent = 0u64;
@@ -135,12 +147,9 @@ fn carry<R: Wait + Clock>(rt: &R, row: &mut Row, count: u64) -> u64 {
     let mut back_off = BackOff::new();
     for _ in rt.forever() {
         let mut told = row.turn_rest(rt);
-        if sent <= count {
-            let item = if sent < count { Some(sent) } else { None };
-            if row.offer(rt, item).is_ok() {
-                sent = sent.saturating_add(1);
-                told = Turn::Moved;
-            }
+        if send(rt, row, sent, count) {
+            sent = sent.saturating_add(1);
+            told = Turn::Moved;
         }
         match row.take(rt) {
             Some(Some(_)) => {
@@ -159,6 +168,23 @@ fn carry<R: Wait + Clock>(rt: &R, row: &mut Row, count: u64) -> u64 {
     unreachable!()
 }
 
+fn carried_in<'s, E: 's, R: Threads + Wait + Clock + Copy + Drop + Send + 's>(
+    rt: R,
+    alloc: Global,
+    scope: &'s Scope<'s, E>,
+    capacity: u32,
+    count: u64,
+    pause: Duration,
+) -> Result<u64, Memory>
+    requires { 1 ≤ capacity }
+{
+    let mut row = Row::start(rt, alloc, scope, capacity)?;
+    thread::sleep(&rt, pause);
+    let came = carry(&rt, &mut row, count);
+    row.end(&rt);
+    Ok(came)
+}
+
 /// How many numbers came out of a row of two stages, into which so many were sent after a pause.
 pub fn carried<R: Threads + Wait + Clock + Copy + Drop + Send>(
     rt: R,
@@ -174,12 +200,6 @@ pub fn carried<R: Threads + Wait + Clock + Copy + Drop + Send>(
         &rt,
         |scope| -> Result<u64, Memory>
             requires { 1 ≤ capacity }
-        {
-            let mut row = Row::start(rt, alloc, scope, capacity)?;
-            thread::sleep(&rt, pause);
-            let came = carry(&rt, &mut row, count);
-            row.end(&rt);
-            Ok(came)
-        },
+        { carried_in(rt, alloc, scope, capacity, count, pause) },
     )
 }

@@ -1,12 +1,12 @@
 // A stopwatch, and why a measurement stops.
 use std::alloc::{AllocError, AllocFailed};
 use std::io;
-use std::time::{Clock, Instant};
+use std::time::Instant;
 use vault_traits::Failed;
 use vault_types::{Fault, Memory};
 
 /// There was no memory, the host refused something, or a call was refused.
-#[derive(Drop)]
+#[derive(Clone, Copy)]
 pub enum Stop {
     Memory,
     Host,
@@ -49,10 +49,42 @@ impl From<Fault> for Stop {
     }
 }
 
-/// The nanoseconds since the start, at most the last value of a `u64`.
-pub fn nanos(clock: &impl Clock, start: &Instant) -> Result<u64, Stop> {
-    let took = start.elapsed(clock)?.as_nanos();
-    Ok(u64::try_from(took).unwrap_or(u64::MAX))
+/// A stopwatch. It tells at its end whether the clock failed.
+#[derive(Clone, Copy)]
+pub struct Watch {
+    since: Instant,
+    has_failed: bool,
+}
+
+impl Watch {
+    pub fn start(rt: HostRuntime) -> Result<Watch, Stop> {
+        Ok(Watch {
+            since: Instant::now(&rt)?,
+            has_failed: false,
+        })
+    }
+
+    /// The nanoseconds since the start or the last lap, at most the last value of a `u64`, and 0 where the clock fails.
+    pub fn lap(&mut self, rt: HostRuntime) -> u64 {
+        match Instant::now(&rt) {
+            Ok(now) => {
+                let took = now.duration_since(self.since).as_nanos();
+                self.since = now;
+                u64::try_from(took).unwrap_or(u64::MAX)
+            }
+            Err(_) => {
+                self.has_failed = true;
+                0
+            }
+        }
+    }
+
+    pub fn end(self) -> Result<(), Stop> {
+        if self.has_failed {
+            return Err(Stop::Host);
+        }
+        Ok(())
+    }
 }
 
 /// Megabytes a second: bytes for each microsecond.

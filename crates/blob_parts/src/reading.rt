@@ -1,7 +1,7 @@
 // Reading a blob from left to right.
 ghost use Rattle.std.specs.Prelude.{◌≡◌};
 ghost use Rattle.std.specs.Int.{w32, w64};
-ghost use Rattle.blob_parts.specs.Reading.{Gives, number_at, tag_at, fp_at, many_at, wide_at, list_at};
+ghost use Rattle.blob_parts.specs.Reading.{ReadsAs, number_at, tag_at, fp_at, many_at, wide_at, list_at};
 
 use crate::unread::Unread;
 use std::alloc::Global;
@@ -9,7 +9,7 @@ use vault_types::{Fp, Id};
 
 /// The number in the next four bytes, and what is behind it.
 pub fn u32_at(bytes: &[u8]) -> Result<(u32, &[u8]), Unread>
-    ensures { Gives (λ x. (x.0, x.1.now)) result (number_at w32 bytes.now) }
+    ensures { ReadsAs (λ x. (x.0, x.1.now)) result (number_at w32 bytes.now) }
 {
     if bytes.len() < 4 {
         return Err(Unread::Spelling);
@@ -21,7 +21,7 @@ pub fn u32_at(bytes: &[u8]) -> Result<(u32, &[u8]), Unread>
 
 /// The number in the next eight bytes, and what is behind it.
 pub fn u64_at(bytes: &[u8]) -> Result<(u64, &[u8]), Unread>
-    ensures { Gives (λ x. (x.0, x.1.now)) result (number_at w64 bytes.now) }
+    ensures { ReadsAs (λ x. (x.0, x.1.now)) result (number_at w64 bytes.now) }
 {
     if bytes.len() < 8 {
         return Err(Unread::Spelling);
@@ -35,7 +35,7 @@ pub fn u64_at(bytes: &[u8]) -> Result<(u64, &[u8]), Unread>
 
 /// What is behind the four bytes by which a blob of a kind begins.
 pub fn tag_at(bytes: &[u8], tag: u32) -> Result<&[u8], Unread>
-    ensures { Gives (λ rest. (tag, rest.now)) result (tag_at tag bytes.now) }
+    ensures { ReadsAs (λ rest. (tag, rest.now)) result (tag_at tag bytes.now) }
 {
     let (number, rest) = u32_at(bytes)?;
     if number != tag {
@@ -46,7 +46,7 @@ pub fn tag_at(bytes: &[u8], tag: u32) -> Result<&[u8], Unread>
 
 /// The sum in the next twenty bytes, and what is behind it.
 pub fn fp_at(bytes: &[u8]) -> Result<(Fp, &[u8]), Unread>
-    ensures { Gives (λ x. (x.0, x.1.now)) result (fp_at bytes.now) }
+    ensures { ReadsAs (λ x. (x.0, x.1.now)) result (fp_at bytes.now) }
 {
     if bytes.len() < 20 {
         return Err(Unread::Spelling);
@@ -59,14 +59,14 @@ pub fn fp_at(bytes: &[u8]) -> Result<(Fp, &[u8]), Unread>
 
 /// The sparse list of a recipe: its length and its ids; and what is behind it.
 pub fn ids_at(alloc: Global, bytes: &[u8]) -> Result<(Vec<Id>, &[u8]), Unread>
-    ensures { Gives (λ x. (x.0.items, x.1.now)) result (list_at 8 (number_at w64) bytes.now) }
+    ensures { ReadsAs (λ x. (x.0.items, x.1.now)) result (list_at 8 (number_at w64) bytes.now) }
 {
     let (count, rest) = u32_at(bytes)?;
     some_ids(alloc, count, rest)
 }
 
 fn some_ids(alloc: Global, count: u32, bytes: &[u8]) -> Result<(Vec<Id>, &[u8]), Unread>
-    ensures { Gives (λ x. (x.0.items, x.1.now)) result (wide_at 8 (number_at w64) count bytes.now) }
+    ensures { ReadsAs (λ x. (x.0.items, x.1.now)) result (wide_at 8 (number_at w64) count bytes.now) }
 {
     let count = count as usize;
     if bytes.len() < 8 * count {
@@ -76,7 +76,7 @@ fn some_ids(alloc: Global, count: u32, bytes: &[u8]) -> Result<(Vec<Id>, &[u8]),
 }
 
 fn many_ids(alloc: Global, count: usize, bytes: &[u8]) -> Result<(Vec<Id>, &[u8]), Unread>
-    ensures { Gives (λ x. (x.0.items, x.1.now)) result (many_at (number_at w64) count bytes.now) }
+    ensures { ReadsAs (λ x. (x.0.items, x.1.now)) result (many_at (number_at w64) count bytes.now) }
 {
     let mut ids = Vec::with_capacity(alloc, count)?;
     let mut rest = bytes;

@@ -72,8 +72,10 @@ fn is_ascending(ids: &[Id]) -> bool
 }
 
 fn are_used(alloc: Global, rows: &[Row], sparse: &[Id]) -> Result<bool, Memory>
-    ensures yes { IfOk result (λ b. IsTrue b → AllByRecursion (λ c. Contains (map (λ r. r.id) rows.now) c) sparse.now) }
-    ensures no { IfOk result (λ b. AllByRecursion (λ c. Contains (map (λ r. r.id) rows.now) c) sparse.now → IsTrue b) }
+    ensures yes { IfOk result (λ b. IsTrue b
+        → AllByRecursion (λ c. Contains (map (λ r. r.id) rows.now) c) sparse.now) }
+    ensures no { IfOk result (λ b. AllByRecursion (λ c. Contains (map (λ r. r.id) rows.now) c) sparse.now
+        → IsTrue b) }
 {
     if sparse.is_empty() {
         return Ok(true);

@@ -4,6 +4,7 @@ ghost use Rattle.vault_types.specs.Blobs.{IsVersion};
 use crate::shelves::{
     FLOOR, PAYLOAD, RECIPE, TABLE, ends_with, faulty, floor_of, holds, lists, one_chunk, shelf_with,
 };
+use container_store::Sealed;
 use deletion_laws::clean_from;
 use keeper_parts::{Halt, clean, commit, mend, put_container, raise_floor};
 use std::alloc::Global;
@@ -12,9 +13,8 @@ use vault_ports::{FaultShelf, MemShelf};
 use vault_traits::{Refused, Shelf};
 use vault_types::{Fault, Name, Version};
 
-fn put_fault<S: Shelf>(alloc: Global, shelf: &mut S) -> Result<Option<Fault>, Fail> {
-    let sealed = one_chunk(alloc)?;
-    Ok(put_container(alloc, shelf, &sealed).err())
+fn put_fault<S: Shelf>(alloc: Global, shelf: &mut S, sealed: &Sealed) -> Option<Fault> {
+    put_container(alloc, shelf, sealed).err()
 }
 
 fn halt_of<S: Shelf>(alloc: Global, shelf: &mut S) -> Option<Halt> {
@@ -60,36 +60,69 @@ fn shelf_with_recipe(alloc: Global, fail: &[u64]) -> Result<FaultShelf, Fail> {
     Ok(faulty(alloc, inner, fail, false)?)
 }
 
+// Whether a container is put and a commit is done, and what is there then.
+fn put_and_committed(alloc: Global, shelf: &mut MemShelf, sealed: &Sealed) -> [bool; 5] {
+    let put = put_fault(alloc, shelf, sealed) == None;
+    let committed = halt_of(alloc, shelf) == None;
+    let listed = lists(alloc, shelf, &[TABLE, PAYLOAD, RECIPE]);
+    let payload = holds(shelf, PAYLOAD, b"abcd");
+    [
+        put,
+        committed,
+        listed,
+        payload,
+        holds(shelf, RECIPE, b"recipe"),
+    ]
+}
+
+// Whether a mending is done, the recipe has gone, and the floor is its own.
+fn mended(alloc: Global, shelf: &mut MemShelf) -> [bool; 3] {
+    let is_done = mend_fault(shelf, 5) == None;
+    let listed = lists(alloc, shelf, &[TABLE, PAYLOAD, FLOOR]);
+    [is_done, listed, floor_of(alloc, shelf) == Ok(5)]
+}
+
+// Whether the floor is raised, all strays go, and the floor alone is left.
+fn raised_and_cleaned(alloc: Global, shelf: &mut MemShelf) -> Result<[bool; 4], Fail> {
+    let raised = floor_fault(shelf, 6) == None;
+    let floor = floor_of(alloc, shelf) == Ok(6);
+    let left = cleaned(alloc, shelf, &[TABLE, PAYLOAD, RECIPE])?;
+    Ok([
+        raised,
+        floor,
+        left.is_empty(),
+        lists(alloc, shelf, &[FLOOR]),
+    ])
+}
+
+fn each_part(alloc: Global) -> Result<([bool; 5], [bool; 3], [bool; 4]), Fail> {
+    let sealed = one_chunk(alloc)?;
+    let mut shelf = MemShelf::new(alloc);
+    let put = put_and_committed(alloc, &mut shelf, &sealed);
+    let mended = mended(alloc, &mut shelf);
+    Ok((put, mended, raised_and_cleaned(alloc, &mut shelf)?))
+}
+
 #[test]
 fn each_part_writes_its_blobs(rt: HostRuntime) -> Result<(), Fail> {
-    let alloc = rt.alloc();
-    let mut shelf = MemShelf::new(alloc);
-    assert!(rt; put_fault(alloc, &mut shelf)? == None && halt_of(alloc, &mut shelf) == None);
-    assert!(rt;
-        lists(alloc, &shelf, &[TABLE, PAYLOAD, RECIPE])?
-            && holds(&shelf, PAYLOAD, b"abcd")
-            && holds(&shelf, RECIPE, b"recipe")
-    );
-    assert!(rt;
-        mend_fault(&mut shelf, 5) == None
-            && lists(alloc, &shelf, &[TABLE, PAYLOAD, FLOOR])?
-            && floor_of(alloc, &mut shelf) == Ok(5)
-    );
-    assert!(rt; floor_fault(&mut shelf, 6) == None && floor_of(alloc, &mut shelf) == Ok(6));
-    assert!(rt;
-        cleaned(alloc, &mut shelf, &[TABLE, PAYLOAD, RECIPE])?.is_empty()
-            && lists(alloc, &shelf, &[FLOOR])?
-    );
+    assert!(rt; each_part(rt.alloc())? == ([true; 5], [true; 3], [true; 4]));
     Ok(())
+}
+
+// The faults of two puts of which a call each fails, and whether the payload alone is left.
+fn failing_puts(alloc: Global) -> Result<([Option<Fault>; 2], bool), Fail> {
+    let sealed = one_chunk(alloc)?;
+    let mut shelf = faulty(alloc, MemShelf::new(alloc), &[1, 3], false)?;
+    let first = put_fault(alloc, &mut shelf, &sealed);
+    let second = put_fault(alloc, &mut shelf, &sealed);
+    Ok(([first, second], ends_with(alloc, shelf, 2, &[PAYLOAD])))
 }
 
 #[test]
 fn a_put_that_fails_leaves_the_payload_at_most(rt: HostRuntime) -> Result<(), Fail> {
-    let alloc = rt.alloc();
-    let mut shelf = faulty(alloc, MemShelf::new(alloc), &[1, 3], false)?;
-    let faults = (put_fault(alloc, &mut shelf)?, put_fault(alloc, &mut shelf)?);
-    assert!(rt; faults == (Some(Fault::StoreFault(1)), Some(Fault::StoreFault(2))));
-    assert!(rt; ends_with(alloc, shelf, 2, &[PAYLOAD])?);
+    let (faults, is_left) = failing_puts(rt.alloc())?;
+    assert!(rt; faults == [Some(Fault::StoreFault(1)), Some(Fault::StoreFault(2))]);
+    assert!(rt; is_left);
     Ok(())
 }
 
@@ -101,10 +134,16 @@ const COMMITS: &[(u64, bool, Halt, &[Name])] = &[
     (3, true, Halt::Half, &[RECIPE]),
 ];
 
+fn commit_halts(alloc: Global, fail: u64, keep: bool) -> Result<(Option<Halt>, FaultShelf), Fail> {
+    let mut shelf = faulty(alloc, MemShelf::new(alloc), &[fail], keep)?;
+    let halt = halt_of(alloc, &mut shelf);
+    Ok((halt, shelf))
+}
+
 fn commits_halt(alloc: Global, commits: &[(u64, bool, Halt, &[Name])]) -> Result<bool, Fail> {
     for (fail, keep, halt, names) in commits {
-        let mut shelf = faulty(alloc, MemShelf::new(alloc), &[*fail], *keep)?;
-        if halt_of(alloc, &mut shelf) != Some(*halt) || !ends_with(alloc, shelf, 1, names)? {
+        let (found, shelf) = commit_halts(alloc, *fail, *keep)?;
+        if !ends_with(alloc, shelf, 1, names) || found != Some(*halt) {
             return Ok(false);
         }
     }
@@ -114,12 +153,16 @@ fn commits_halt(alloc: Global, commits: &[(u64, bool, Halt, &[Name])]) -> Result
 // The call that fails, and which names a mending leaves.
 const MENDINGS: &[(u64, &[Name])] = &[(1, &[RECIPE]), (2, &[]), (3, &[FLOOR])];
 
+fn mending_halts(alloc: Global, fail: u64) -> Result<(Option<Fault>, FaultShelf), Fail> {
+    let mut shelf = shelf_with_recipe(alloc, &[fail])?;
+    let fault = mend_fault(&mut shelf, 1);
+    Ok((fault, shelf))
+}
+
 fn mendings_halt(alloc: Global, mendings: &[(u64, &[Name])]) -> Result<bool, Fail> {
     for (fail, names) in mendings {
-        let mut shelf = shelf_with_recipe(alloc, &[*fail])?;
-        if mend_fault(&mut shelf, 1) != Some(Fault::StoreFault(1))
-            || !ends_with(alloc, shelf, 1, names)?
-        {
+        let (fault, shelf) = mending_halts(alloc, *fail)?;
+        if !ends_with(alloc, shelf, 1, names) || fault != Some(Fault::StoreFault(1)) {
             return Ok(false);
         }
     }
@@ -133,35 +176,51 @@ fn a_commit_or_a_mending_stops_at_the_call_that_fails(rt: HostRuntime) -> Result
     Ok(())
 }
 
+// The faults of two raisings of a floor to 2, and the floor then.
+fn failing_floors(alloc: Global) -> Result<([Option<Fault>; 2], Result<Version, Fault>), Fail> {
+    let mut shelf = shelf_with_recipe(alloc, &[1, 3])?;
+    let first = floor_fault(&mut shelf, 2);
+    let second = floor_fault(&mut shelf, 2);
+    Ok(([first, second], floor_of(alloc, &mut shelf)))
+}
+
 #[test]
 fn a_floor_may_be_there_before_it_is_settled(rt: HostRuntime) -> Result<(), Fail> {
-    let alloc = rt.alloc();
-    let mut shelf = shelf_with_recipe(alloc, &[1, 3])?;
-    let faults = (floor_fault(&mut shelf, 2), floor_fault(&mut shelf, 2));
-    assert!(rt; faults == (Some(Fault::StoreFault(1)), Some(Fault::StoreFault(2))));
-    assert!(rt; floor_of(alloc, &mut shelf) == Ok(2));
+    let (faults, floor) = failing_floors(rt.alloc())?;
+    assert!(rt; faults == [Some(Fault::StoreFault(1)), Some(Fault::StoreFault(2))]);
+    assert!(rt; floor == Ok(2));
     Ok(())
+}
+
+// The strays that are left behind a first cleaning and a second, and whether one call failed and nothing is there.
+type Cleaned = (Vec<Name>, Vec<Name>, bool);
+
+fn cleaned_twice(alloc: Global) -> Result<Cleaned, Fail> {
+    let mut shelf = shelf_with_recipe(alloc, &[2])?;
+    let first = cleaned(alloc, &mut shelf, &[TABLE, RECIPE, PAYLOAD])?;
+    let second = cleaned(alloc, &mut shelf, first.as_slice())?;
+    Ok((first, second, ends_with(alloc, shelf, 1, &[])))
 }
 
 #[test]
 fn what_is_not_removed_stays_a_stray(rt: HostRuntime) -> Result<(), Fail> {
-    let alloc = rt.alloc();
-    let mut shelf = shelf_with_recipe(alloc, &[2])?;
-    let left = cleaned(alloc, &mut shelf, &[TABLE, RECIPE, PAYLOAD])?;
-    assert!(rt; left.as_slice() == [RECIPE].as_slice());
-    assert!(rt; cleaned(alloc, &mut shelf, left.as_slice())?.is_empty());
-    assert!(rt; ends_with(alloc, shelf, 1, &[])?);
+    let (first, second, is_empty) = cleaned_twice(rt.alloc())?;
+    assert!(rt; first.as_slice() == [RECIPE].as_slice());
+    assert!(rt; second.is_empty() && is_empty);
     Ok(())
+}
+
+fn cleaned_twice_from_1(alloc: Global) -> Result<Cleaned, Fail> {
+    let mut shelf = shelf_with_recipe(alloc, &[2])?;
+    let first = cleaned_from_1(alloc, &mut shelf, &[TABLE, RECIPE, PAYLOAD])?;
+    let second = cleaned_from_1(alloc, &mut shelf, first.as_slice())?;
+    Ok((first, second, ends_with(alloc, shelf, 1, &[])))
 }
 
 #[test]
 fn names_before_a_place_are_left(rt: HostRuntime) -> Result<(), Fail> {
-    let alloc = rt.alloc();
-    let mut shelf = shelf_with_recipe(alloc, &[2])?;
-    let left = cleaned_from_1(alloc, &mut shelf, &[TABLE, RECIPE, PAYLOAD])?;
-    assert!(rt; left.as_slice() == [TABLE, RECIPE].as_slice());
-    let left = cleaned_from_1(alloc, &mut shelf, left.as_slice())?;
-    assert!(rt; left.as_slice() == [TABLE].as_slice());
-    assert!(rt; ends_with(alloc, shelf, 1, &[])?);
+    let (first, second, is_empty) = cleaned_twice_from_1(rt.alloc())?;
+    assert!(rt; first.as_slice() == [TABLE, RECIPE].as_slice());
+    assert!(rt; second.as_slice() == [TABLE].as_slice() && is_empty);
     Ok(())
 }

@@ -11,7 +11,7 @@ use std::test::Fail;
 use vault_ports::MemShelf;
 use vault_traits::Shelf;
 use vault_types::list::ListOf;
-use vault_types::{Fault, Fp, Kind, Memory, Name, Recipe, Row, Set, Why};
+use vault_types::{Fault, Fp, Kind, Memory, Name, Recipe, Row, Set, Version, Why};
 
 // The SHA-1 of `aaaa`.
 const AAAA: [u8; 20] = [
@@ -49,12 +49,17 @@ fn blob_of_3(alloc: Global) -> Result<Vec<u8>, Fail> {
     Ok(encode_recipe(alloc, &recipe)?)
 }
 
-fn put_fault<S: Shelf>(alloc: Global, shelf: &mut S) -> Result<Option<Fault>, Fail> {
+// How the recipe's put ends, `Usage` where the recipe breaks a rule.
+fn put_end<S: Shelf>(alloc: Global, shelf: &mut S) -> Result<(), Fault> {
     let recipe = recipe_of_3(alloc)?;
     if !has_rules(alloc, &recipe)? {
-        return Err(Fail::from("the recipe breaks a rule"));
+        return Err(Fault::Usage);
     }
-    Ok(put_recipe(alloc, shelf, &recipe).err())
+    put_recipe(alloc, shelf, &recipe)
+}
+
+fn put_fault<S: Shelf>(alloc: Global, shelf: &mut S) -> Option<Fault> {
+    put_end(alloc, shelf).err()
 }
 
 fn get_fault<S: Shelf>(alloc: Global, shelf: &mut S, set: Set) -> Option<Fault> {
@@ -79,80 +84,142 @@ fn surveyed<S: Shelf>(alloc: Global, shelf: &mut S) -> Result<Vec<Name>, Fault> 
     survey(alloc, shelf)
 }
 
+// What is told of the blob of set 3 under the name of set 4.
+fn fault_of_4(alloc: Global, blob: &[u8]) -> Result<Option<Fault>, Fail> {
+    let mut shelf = shelf_with(alloc, RECIPE_OF_4, blob)?;
+    Ok(get_fault(alloc, &mut shelf, 4))
+}
+
+// How long the blob is, whether it is a recipe of set 3 and of set 4, and what is told of it under the name of set 4.
+fn of_another_set(alloc: Global) -> Result<(usize, [bool; 2], Option<Fault>), Fail> {
+    let blob = blob_of_3(alloc)?;
+    let own = forms::spells(alloc, blob.as_slice(), 3, 1)?;
+    let other = forms::spells(alloc, blob.as_slice(), 4, 1)?;
+    Ok((
+        blob.len(),
+        [own, other],
+        fault_of_4(alloc, blob.as_slice())?,
+    ))
+}
+
 #[test]
 fn a_recipe_is_none_of_another_set(rt: HostRuntime) -> Result<(), Fail> {
-    let alloc = rt.alloc();
-    let blob = blob_of_3(alloc)?;
-    assert!(rt; blob.len() == 84 && forms::spells(alloc, blob.as_slice(), 3, 1)?);
-    assert!(rt; !forms::spells(alloc, blob.as_slice(), 4, 1)?);
-    let mut shelf = shelf_with(alloc, RECIPE_OF_4, blob.as_slice())?;
-    assert!(rt; get_fault(alloc, &mut shelf, 4) == damaged(RECIPE_OF_4, Why::Spelling));
+    let (len, sets, fault) = of_another_set(rt.alloc())?;
+    assert!(rt; len == 84 && sets == [true, false]);
+    assert!(rt; fault == damaged(RECIPE_OF_4, Why::Spelling));
     Ok(())
+}
+
+// The floor before and behind its put, and the fault of that.
+fn floor_put(
+    alloc: Global,
+    shelf: &mut MemShelf,
+) -> (Option<Version>, Option<Fault>, Option<Version>) {
+    let before = floor_of(alloc, shelf).ok();
+    let fault = floor_fault(shelf);
+    (before, fault, floor_of(alloc, shelf).ok())
+}
+
+// The fault of the recipe's put, and what is got then.
+fn recipe_put(
+    alloc: Global,
+    shelf: &mut MemShelf,
+) -> Result<(Option<Fault>, (u64, u64, Vec<Row>)), Fail> {
+    let fault = put_fault(alloc, shelf);
+    Ok((fault, got(alloc, shelf)?))
+}
+
+// Of a shelf with both: whether the floor and the recipe were put, and what is got and surveyed.
+fn both_put(alloc: Global) -> Result<(bool, (u64, u64, Vec<Row>), Vec<Name>), Fail> {
+    let mut shelf = MemShelf::new(alloc);
+    let floor = floor_put(alloc, &mut shelf);
+    let (fault, got) = recipe_put(alloc, &mut shelf)?;
+    let is_put = floor == (Some(1), None, Some(7)) && fault == None;
+    Ok((is_put, got, surveyed(alloc, &mut shelf)?))
 }
 
 #[test]
 fn floors_and_recipes_are_put(rt: HostRuntime) -> Result<(), Fail> {
-    let alloc = rt.alloc();
-    let mut shelf = MemShelf::new(alloc);
+    let (is_put, (next, length, rows), names) = both_put(rt.alloc())?;
     let row = Row {
         fp: Fp(AAAA),
         id: 1,
         len: 4,
     };
-    assert!(rt;
-        floor_of(alloc, &mut shelf) == Ok(1)
-            && floor_fault(&mut shelf) == None
-            && floor_of(alloc, &mut shelf) == Ok(7)
-    );
-    assert!(rt; put_fault(alloc, &mut shelf)? == None);
-    let (next, length, rows) = got(alloc, &mut shelf)?;
-    assert!(rt; (next, length) == (2, 4) && rows.as_slice() == [row].as_slice());
-    assert!(rt; surveyed(alloc, &mut shelf)?.as_slice() == [RECIPE, FLOOR].as_slice());
+    assert!(rt; is_put && (next, length) == (2, 4));
+    assert!(rt; rows.as_slice() == [row].as_slice());
+    assert!(rt; names.as_slice() == [RECIPE, FLOOR].as_slice());
     Ok(())
+}
+
+// Whether the floor and the recipe are put, and the recipe is removed; the fault of a get, and what is surveyed then.
+fn put_and_removed(alloc: Global) -> Result<([bool; 3], Option<Fault>, Vec<Name>), Fail> {
+    let mut shelf = MemShelf::new(alloc);
+    let floor = floor_fault(&mut shelf) == None;
+    let recipe = put_fault(alloc, &mut shelf) == None;
+    let removed = is_removed(&mut shelf);
+    let fault = get_fault(alloc, &mut shelf, 3);
+    Ok((
+        [floor, recipe, removed],
+        fault,
+        surveyed(alloc, &mut shelf)?,
+    ))
 }
 
 #[test]
 fn a_recipe_is_removed(rt: HostRuntime) -> Result<(), Fail> {
-    let alloc = rt.alloc();
-    let mut shelf = MemShelf::new(alloc);
-    assert!(rt; floor_fault(&mut shelf) == None && put_fault(alloc, &mut shelf)? == None);
-    assert!(rt; is_removed(&mut shelf));
-    assert!(rt; get_fault(alloc, &mut shelf, 3) == damaged(RECIPE, Why::Absent));
-    assert!(rt; surveyed(alloc, &mut shelf)?.as_slice() == [FLOOR].as_slice());
+    let (done, fault, names) = put_and_removed(rt.alloc())?;
+    assert!(rt; done == [true; 3]);
+    assert!(rt; fault == damaged(RECIPE, Why::Absent));
+    assert!(rt; names.as_slice() == [FLOOR].as_slice());
     Ok(())
+}
+
+fn cut_floor_fault(alloc: Global) -> Result<Option<Fault>, Fail> {
+    let mut shelf = shelf_with(alloc, FLOOR, &forms::FLOOR[..27])?;
+    Ok(floor_of(alloc, &mut shelf).err())
 }
 
 #[test]
 fn a_floor_that_is_cut_is_damaged(rt: HostRuntime) -> Result<(), Fail> {
-    let mut shelf = shelf_with(rt.alloc(), FLOOR, &forms::FLOOR[..27])?;
-    let fault = floor_of(rt.alloc(), &mut shelf).err();
-    assert!(rt; fault == damaged(FLOOR, Why::Spelling));
+    assert!(rt; cut_floor_fault(rt.alloc())? == damaged(FLOOR, Why::Spelling));
     Ok(())
+}
+
+// The faults of two puts and a get of the recipe, of a put and a get of the floor and of a survey; and whether a removal
+// is done.
+fn six_faults<S: Shelf>(alloc: Global, shelf: &mut S) -> ([Option<Fault>; 6], bool) {
+    let first = put_fault(alloc, shelf);
+    let second = put_fault(alloc, shelf);
+    let get = get_fault(alloc, shelf, 3);
+    let floor = floor_fault(shelf);
+    let floor_get = floor_of(alloc, shelf).err();
+    let survey = surveyed(alloc, shelf).err();
+    (
+        [first, second, get, floor, floor_get, survey],
+        is_removed(shelf),
+    )
+}
+
+// The same over a shelf of which six calls fail, and whether that many are counted and the recipe is left.
+fn failing_calls(alloc: Global) -> Result<([Option<Fault>; 6], bool, bool), Fail> {
+    let mut shelf = faulty(alloc, MemShelf::new(alloc), &[2, 3, 4, 5, 6, 7], false)?;
+    let (faults, removed) = six_faults(alloc, &mut shelf);
+    Ok((faults, removed, ends_with(alloc, shelf, 6, &[RECIPE])))
 }
 
 #[test]
 fn a_call_that_fails_is_told_by_its_number(rt: HostRuntime) -> Result<(), Fail> {
-    let alloc = rt.alloc();
-    let mut shelf = faulty(alloc, MemShelf::new(alloc), &[2, 3, 4, 5, 6, 7], false)?;
-    let recipes = (
-        put_fault(alloc, &mut shelf)?,
-        put_fault(alloc, &mut shelf)?,
-        get_fault(alloc, &mut shelf, 3),
-    );
-    let floors = (
-        floor_fault(&mut shelf),
-        floor_of(alloc, &mut shelf).err(),
-        surveyed(alloc, &mut shelf).err(),
-    );
-    assert!(rt; recipes == (None, Some(Fault::StoreFault(1)), Some(Fault::StoreFault(2))));
-    assert!(rt;
-        floors
-            == (
-                Some(Fault::StoreFault(3)),
-                Some(Fault::StoreFault(4)),
-                Some(Fault::StoreFault(5))
-            )
-    );
-    assert!(rt; !is_removed(&mut shelf) && ends_with(alloc, shelf, 6, &[RECIPE])?);
+    let (faults, removed, is_left) = failing_calls(rt.alloc())?;
+    let expected = [
+        None,
+        Some(Fault::StoreFault(1)),
+        Some(Fault::StoreFault(2)),
+        Some(Fault::StoreFault(3)),
+        Some(Fault::StoreFault(4)),
+        Some(Fault::StoreFault(5)),
+    ];
+    assert!(rt; faults == expected);
+    assert!(rt; !removed && is_left);
     Ok(())
 }

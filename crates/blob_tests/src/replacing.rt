@@ -33,27 +33,45 @@ fn replaced(alloc: Global, shelf: &mut FaultShelf) -> Result<(Option<Fault>, Pen
     }
 }
 
-// A third call of the shelf would fail.
+// How the call ends over a shelf of which these calls fail, what is due then, and the shelf.
+fn replaced_on(
+    alloc: Global,
+    fail: &[u64],
+) -> Result<((Option<Fault>, Pending), FaultShelf), Fail> {
+    let mut shelf = faulty(alloc, MemShelf::new(alloc), fail, false)?;
+    let end = replaced(alloc, &mut shelf)?;
+    Ok((end, shelf))
+}
+
+// A third call of the shelf would fail. Whether the recipe alone is there then, with its bytes.
+fn put_and_settled(alloc: Global) -> Result<((Option<Fault>, Pending), [bool; 2]), Fail> {
+    let (end, shelf) = replaced_on(alloc, &[3])?;
+    let inner = shelf.into_inner();
+    let listed = lists(alloc, &inner, &[NAME]);
+    Ok((end, [listed, holds(&inner, NAME, &EMPTY)]))
+}
+
 #[test]
 fn a_recipe_is_put_and_settled(rt: HostRuntime) -> Result<(), Fail> {
-    let alloc = rt.alloc();
-    let mut shelf = faulty(alloc, MemShelf::new(alloc), &[3], false)?;
-    assert!(rt; replaced(alloc, &mut shelf)? == (None, Pending::Not));
-    let inner = shelf.into_inner();
-    assert!(rt; lists(alloc, &inner, &[NAME])? && holds(&inner, NAME, &EMPTY));
+    assert!(rt; put_and_settled(rt.alloc())? == ((None, Pending::Not), [true; 2]));
     Ok(())
+}
+
+// Whether one call failed then, and these names are left.
+fn failed(
+    alloc: Global,
+    fail: &[u64],
+    names: &[Name],
+) -> Result<((Option<Fault>, Pending), bool), Fail> {
+    let (end, shelf) = replaced_on(alloc, fail)?;
+    Ok((end, ends_with(alloc, shelf, 1, names)))
 }
 
 // What is not put is not settled either.
 #[test]
 fn a_put_or_a_settle_that_fails_makes_a_mending_due(rt: HostRuntime) -> Result<(), Fail> {
-    let alloc = rt.alloc();
     let due = (Some(Fault::StoreFault(1)), Pending::FailedFor(2));
-    let mut shelf = faulty(alloc, MemShelf::new(alloc), &[1, 2], false)?;
-    assert!(rt; replaced(alloc, &mut shelf)? == due);
-    assert!(rt; ends_with(alloc, shelf, 1, &[])?);
-    let mut shelf = faulty(alloc, MemShelf::new(alloc), &[2], false)?;
-    assert!(rt; replaced(alloc, &mut shelf)? == due);
-    assert!(rt; ends_with(alloc, shelf, 1, &[NAME])?);
+    assert!(rt; failed(rt.alloc(), &[1, 2], &[])? == (due, true));
+    assert!(rt; failed(rt.alloc(), &[2], &[NAME])? == (due, true));
     Ok(())
 }

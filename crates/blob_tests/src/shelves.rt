@@ -69,8 +69,11 @@ pub fn faulty(
     Ok(FaultShelf::new(inner, fail.to_vec(alloc)?, keep))
 }
 
-pub fn lists(alloc: Global, shelf: &MemShelf, names: &[Name]) -> Result<bool, Memory> {
-    Ok(shelf.names(alloc)?.as_slice() == names)
+pub fn lists(alloc: Global, shelf: &MemShelf, names: &[Name]) -> bool {
+    match shelf.names(alloc) {
+        Ok(found) => found.as_slice() == names,
+        Err(_) => false,
+    }
 }
 
 pub fn holds(shelf: &MemShelf, name: Name, blob: &[u8]) -> bool {
@@ -78,13 +81,9 @@ pub fn holds(shelf: &MemShelf, name: Name, blob: &[u8]) -> bool {
 }
 
 // Whether so many calls failed, and these names are left.
-pub fn ends_with(
-    alloc: Global,
-    shelf: FaultShelf,
-    faults: u64,
-    names: &[Name],
-) -> Result<bool, Memory> {
-    Ok(shelf.faults() == faults && lists(alloc, &shelf.into_inner(), names)?)
+pub fn ends_with(alloc: Global, shelf: FaultShelf, faults: u64, names: &[Name]) -> bool {
+    let failed = shelf.faults();
+    lists(alloc, &shelf.into_inner(), names) && failed == faults
 }
 
 pub fn floor_of<S: Shelf>(alloc: Global, shelf: &mut S) -> Result<Version, Fault> {

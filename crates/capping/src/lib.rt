@@ -13,7 +13,8 @@ use vault_types::{Id, Memory};
 
 /// Counts one more chunk of a container.
 fn count_one(times: &mut IndexMap<Id, u64>, id: Id) -> Result<(), Memory>
-    ensures { (ids : List ℕ) → HasCounted times.old.entries ids → length ids + 1 < 2 ^ 64 → OnOk result (HasCounted times.new.entries (ids ++ id ∷ [])) }
+    ensures { (ids : List ℕ) → HasCounted times.old.entries ids → length ids + 1 < 2 ^ 64
+        → OnOk result (HasCounted times.new.entries (ids ++ id ∷ [])) }
 {
     let before = times.get(&id).copied().unwrap_or(0);
     times.insert(id, before.saturating_add(1))?;

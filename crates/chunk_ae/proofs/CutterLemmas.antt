@@ -1,26 +1,27 @@
 -- What a step of feeding leaves, and the first chunk of some bytes.
-use Rattle.std.proofs.Common.{◌≡◌, ℕ, ◌<◌, ◌≤◌, List, [], ◌∷◌, ◌++◌, length, take, drop, get_or, refl, sym, ap, ◌∙◌, subst, arith, append-nil, Option, Some, None}
+use Rattle.std.proofs.Common.{◌≡◌, ℕ, ◌≤◌, List, [], ◌∷◌, ◌++◌, length, take, drop, refl, sym, ap, ◌∙◌, subst, arith, append-nil, None}
 use Rattle.std.specs.Prelude.{slice_index_or}
 use Rattle.std.proofs.lemmas.List.{take-append-drop, length-take-le}
 use Rattle.vault_types.specs.declared.Cutting.TheVariants.{Ae}
 use Rattle.vault_types.specs.Cuts.{Chunker, settled_len, settled, unsettled, only_bytes, cuts}
 use Rattle.vault_types.proofs.PartsLemmas.{parts_end, rest_end}
 use Rattle.chunk_ae.specs.declared.scan.Scan.{Scan}
-use Rattle.chunk_ae.specs.Held.{IsKept}
+use Rattle.vault_types.specs.JobRanges.{IsCuttable}
+use Rattle.vault_types.specs.Feeds.{HoldsPiece}
 use Rattle.chunk_ae.specs.Scans.{IsScan, IsEnd}
-use Rattle.chunk_ae.proofs.EndLemmas.{ae-stable}
+use Rattle.vault_types.proofs.CutLemmas.{ae-stable}
 use Rattle.vault_types.proofs.FeedLemmas.{settled_whole}
 use Rattle.chunk_ae.proofs.ScanLemmas.{open-none}
 
 abbrev pub chunker : ℕ → ℕ → List ℕ → Chunker
 chunker w m held = record { cutting = Ae w m; held = held }
 
-pub kept-by : (k n : Chunker) (w m : ℕ) (held next piece : List ℕ) (s : Scan) → chunker w m held ≡ k → chunker w m next ≡ n → 1 ≤ w → w < m
-    → IsScan w m next s → next ≡ held ++ piece → IsKept k n piece
-kept-by k n w m held next piece s e f some less scan is =
+pub kept-by : (k n : Chunker) (w m : ℕ) (held next piece : List ℕ) (s : Scan) → chunker w m held ≡ k → chunker w m next ≡ n → IsCuttable (Ae w m)
+    → IsScan w m next s → next ≡ held ++ piece → HoldsPiece k n piece
+kept-by k n w m held next piece s e f can scan is =
     let P : Chunker → Type 0 = λ c. settled_len c.cutting c.held ≡ None in
     record {
-      windowed = record { window = w; max = m; cutting = ap (λ c. c.cutting) (sym e); some = some; less = less };
+      cuttable = subst (λ (c : Chunker). IsCuttable c.cutting) e can;
       cutting = ap (λ c. c.cutting) (sym f) ∙ ap (λ c. c.cutting) e;
       held = ap (λ c. c.held) (sym f) ∙ is ∙ ap (λ c. c.held ++ piece) e;
       none = subst P f (open-none w m next s scan);

@@ -1,5 +1,4 @@
 pub mod EndLemmas
-pub mod StreamLemmas
 pub mod ValueLemmas
 pub mod PeakLemmas
 pub mod ScanLemmas

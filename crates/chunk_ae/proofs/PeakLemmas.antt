@@ -1,11 +1,12 @@
 -- The first of the greatest values of a chunk, as its bytes pass, and where the chunk ends by it.
-use Rattle.std.proofs.Common.{◌≡◌, ℕ, zero, suc, ◌+◌, ◌*◌, ◌-◌, ◌%◌, ◌^◌, ◌<◌, ◌≤◌, ◌==◌, Bool, true, false, ◌&&◌, ◌||◌, List, [], ◌∷◌, ◌++◌, length, refl, sym, ap, ◌∙◌, subst, arith, length-append}
+use Rattle.std.proofs.Common.{◌≡◌, ℕ, ◌+◌, ◌*◌, ◌-◌, ◌%◌, ◌^◌, ◌<◌, ◌≤◌, ◌==◌, Bool, true, false, ◌&&◌, ◌||◌, List, [], ◌∷◌, ◌++◌, length, refl, sym, ap, ◌∙◌, arith, length-append}
 use Rattle.std.specs.Prelude.{◌≢◌, nat_le, nat_lt, min, max}
 use Rattle.std.proofs.lemmas.Bool.Decides.{nat_tests}
 use Rattle.vault_types.specs.Cuts.{value_at, is_peak, is_unbeaten, ends_at}
 use Rattle.chunk_ae.specs.Scans.{IsPeak}
-use Rattle.chunk_ae.proofs.EndLemmas.{value_at-append, list_all-holds, list_all-fails}
-use Rattle.chunk_ae.proofs.ValueLemmas.{AreBytes, bytes-more, value-next}
+use Rattle.chunk_ae.proofs.EndLemmas.{list_all-holds, list_all-fails}
+use Rattle.vault_types.proofs.CutLemmas.{value_at-append}
+use Rattle.chunk_ae.proofs.ValueLemmas.{bytes-more, value-next}
 
 pub peak-start : (w m : ℕ) → w < m → IsPeak w m [] 0 0 (w + 1)
 peak-start w m less = record {

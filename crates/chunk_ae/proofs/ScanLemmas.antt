@@ -1,6 +1,6 @@
 -- One more byte of a chunk: it goes on, or ends.
-use Rattle.std.proofs.Common.{◌≡◌, ◌⊎◌, inl, inr, take, get_or, append-nil, append_assoc, ℕ, suc, ◌+◌, ◌*◌, ◌-◌, ◌%◌, ◌^◌, ◌<◌, ◌≤◌, ◌==◌, Bool, true, false, List, [], ◌∷◌, ◌++◌, length, refl, sym, ap, ◌∙◌, subst, arith, length-append, Option, Some, None}
-use Rattle.std.specs.Prelude.{nat_le, nat_lt, min, max, find, bit_or}
+use Rattle.std.proofs.Common.{◌≡◌, ◌⊎◌, inl, inr, take, get_or, append-nil, append_assoc, ℕ, suc, ◌+◌, ◌*◌, ◌-◌, ◌%◌, ◌^◌, ◌<◌, ◌≤◌, Bool, true, false, List, [], ◌∷◌, ◌++◌, length, refl, sym, ap, ◌∙◌, subst, arith, length-append, Some, None}
+use Rattle.std.specs.Prelude.{nat_le, min, find, bit_or}
 use Rattle.std.proofs.lemmas.Nat.{or_shifted}
 use Rattle.std.proofs.lemmas.List.{take_more}
 use Rattle.std.specs.List.{range_with_len}
@@ -10,7 +10,8 @@ use Rattle.vault_types.specs.Cuts.{ends_at, settled_len}
 use Rattle.chunk_ae.specs.declared.scan.Scan.{Scan}
 use Rattle.std.proofs.Math.Seq.{take-length}
 use Rattle.chunk_ae.specs.Scans.{IsPeak, IsScan, IsEnd}
-use Rattle.chunk_ae.proofs.EndLemmas.{ends_at-append, find-none, find-last}
+use Rattle.chunk_ae.proofs.EndLemmas.{find-none, find-last}
+use Rattle.vault_types.proofs.CutLemmas.{ends_at-append}
 use Rattle.chunk_ae.proofs.PeakLemmas.{peak-start, peak-new, peak-old, ends-no, ends-yes}
 
 -- what has no end so far has none settled

@@ -1,5 +1,5 @@
 -- What is known of a chunk while its bytes pass. Positions count from 1.
-use Rattle.std.specs.Prelude.{◌≡◌, ℕ, ◌+◌, ◌<◌, ◌≤◌, Bool, false, List, ◌++◌, length, take, min, max, Some}
+use Rattle.std.specs.Prelude.{◌≡◌, ℕ, ◌+◌, ◌<◌, ◌≤◌, false, List, ◌++◌, length, take, min, max, Some}
 use Rattle.std.specs.List.{AllByRecursion}
 use Rattle.vault_types.specs.declared.Cutting.TheVariants.{Ae}
 use Rattle.vault_types.specs.Cuts.{value_at, ends_at, settled_len}
@@ -7,8 +7,8 @@ use Rattle.chunk_ae.specs.declared.scan.Scan.{Scan}
 use Rattle.chunk_ae.specs.declared.scan.Scanned.{Scanned}
 use Rattle.chunk_ae.specs.declared.scan.Scanned.TheVariants.{End, Open}
 
--- the chunk's bytes so far are x. Its last value is recent; the value at place is the first of the greatest; and where no
--- greater one comes, the chunk has the length end
+-- the chunk's bytes so far are x. Its last value is recent; the value at place is the first of the
+-- greatest; and where no greater one comes, the chunk has the length end
 pub record IsPeak (window most : ℕ) (x : List ℕ) (recent peak end : ℕ) : Type 0 where
   pub bytes : AllByRecursion (λ b. b < 256) x
   pub recent_is : recent ≡ value_at x (length x)

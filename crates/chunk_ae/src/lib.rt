@@ -6,7 +6,7 @@ ghost use Rattle.std.specs.Prelude.{◌≡◌, ℕ, ◌<◌, ◌≤◌, List, []
 ghost use Rattle.std.specs.List.{concat};
 ghost use Rattle.vault_types.specs.declared.Cutting.TheVariants as cutting;
 ghost use Rattle.vault_types.specs.Cuts.{cuts, settled, unsettled, only_bytes, HasCut};
-ghost use Rattle.chunk_ae.specs.Held.{held_bytes};
+ghost use Rattle.vault_types.specs.Feeds.{held_bytes};
 
 mod scan;
 mod step;
@@ -33,12 +33,13 @@ impl Model for Ae {
 
     ghost Value = { Chunker };
 
-    ghost use Rattle.chunk_ae.specs.Held.{held_bytes};
+    ghost use Rattle.vault_types.specs.Feeds.{held_bytes};
     ghost use Rattle.chunk_ae.specs.Scans.{IsScan};
 
     ghost view = { λ a. record { cutting = cutting.Ae a.window a.max; held = held_bytes a.held } };
 
-    ghost invariant = { λ a. (1 ≤ a.window) × (a.window < a.max) × (a.max ≤ 65536) × IsScan a.window a.max (held_bytes a.held) a.scan };
+    ghost invariant = { λ a. (1 ≤ a.window) × (a.window < a.max) × (a.max ≤ 65536)
+        × IsScan a.window a.max (held_bytes a.held) a.scan };
 }
 
 impl Ae {
@@ -71,9 +72,13 @@ impl Ae {
         out: &mut Vec<Vec<u8>>,
     ) -> Result<(), Memory>
         ensures cutting { OnOk result (self.new.cutting ≡ self.old.cutting) }
-        ensures chunks { OnOk result (map (λ c. c.items) out.new.items ≡ map (λ c. c.items) out.old.items ++ settled (self.old.held ++ piece.now) self.old.cutting) }
+        ensures chunks { OnOk result
+            (map (λ c. c.items) out.new.items
+            ≡ map (λ c. c.items) out.old.items ++ settled (self.old.held ++ piece.now) self.old.cutting) }
         ensures held { OnOk result (self.new.held ≡ unsettled (self.old.held ++ piece.now) self.old.cutting) }
-        ensures stream { OnOk result ((gone : List (List ℕ)) (x : List ℕ) → HasCut self.old gone x → HasCut self.new (gone ++ settled (self.old.held ++ piece.now) self.old.cutting) (x ++ piece.now)) }
+        ensures stream { OnOk result ((gone : List (List ℕ)) (x : List ℕ) → HasCut self.old gone x
+            → HasCut self.new (gone ++ settled (self.old.held ++ piece.now) self.old.cutting)
+            (x ++ piece.now)) }
     {
         let mut rest = piece;
         loop {
@@ -89,8 +94,10 @@ impl Ae {
 
     /// Appends to `out` the bytes that are left, if there are any, as the last chunk of the stream.
     pub fn finish(self, out: &mut Vec<Vec<u8>>) -> Result<(), Memory>
-        ensures chunks { OnOk result (map (λ c. c.items) out.new.items ≡ map (λ c. c.items) out.old.items ++ only_bytes self.held) }
-        ensures stream { (gone : List (List ℕ)) (x : List ℕ) → HasCut self gone x → gone ++ only_bytes self.held ≡ cuts x self.cutting }
+        ensures chunks { OnOk result
+            (map (λ c. c.items) out.new.items ≡ map (λ c. c.items) out.old.items ++ only_bytes self.held) }
+        ensures stream { (gone : List (List ℕ)) (x : List ℕ) → HasCut self gone x
+            → gone ++ only_bytes self.held ≡ cuts x self.cutting }
     {
         let Ae {
             window: _,
@@ -149,8 +156,12 @@ pub fn first_cut(bytes: &[u8], window: u32, max: u32) -> usize
 /// The pieces that a stream comes in do not matter: cutting x, and then what was left of x together with y, comes to
 /// cutting x and y together. The chunks of a stream are its bytes.
 pub fn pieces_do_not_matter()
-    ensures chunks { (w m : ℕ) (x y : List ℕ) → 1 ≤ w → w < m → settled (x ++ y) (cutting.Ae w m) ≡ settled x (cutting.Ae w m) ++ settled (unsettled x (cutting.Ae w m) ++ y) (cutting.Ae w m) }
-    ensures left { (w m : ℕ) (x y : List ℕ) → 1 ≤ w → w < m → unsettled (x ++ y) (cutting.Ae w m) ≡ unsettled (unsettled x (cutting.Ae w m) ++ y) (cutting.Ae w m) }
+    ensures chunks { (w m : ℕ) (x y : List ℕ) → 1 ≤ w → w < m
+        → settled (x ++ y) (cutting.Ae w m)
+        ≡ settled x (cutting.Ae w m) ++ settled (unsettled x (cutting.Ae w m) ++ y) (cutting.Ae w m) }
+    ensures left { (w m : ℕ) (x y : List ℕ) → 1 ≤ w → w < m
+        → unsettled (x ++ y) (cutting.Ae w m)
+        ≡ unsettled (unsettled x (cutting.Ae w m) ++ y) (cutting.Ae w m) }
     ensures bytes { (w m : ℕ) (x : List ℕ) → concat (cuts x (cutting.Ae w m)) ≡ x }
 {}
 

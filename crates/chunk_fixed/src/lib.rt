@@ -26,7 +26,8 @@ impl Model for Fixed {
 
     ghost Value = { Chunker };
 
-    ghost use Rattle.chunk_fixed.specs.Held.{held_bytes, IsHeld};
+    ghost use Rattle.vault_types.specs.Feeds.{held_bytes};
+    ghost use Rattle.chunk_fixed.specs.Held.{IsHeld};
 
     ghost view = { λ f. record { cutting = cutting.Fixed f.size; held = held_bytes f.held } };
 
@@ -59,9 +60,13 @@ impl Fixed {
         out: &mut Vec<Vec<u8>>,
     ) -> Result<(), Memory>
         ensures cutting { OnOk result (self.new.cutting ≡ self.old.cutting) }
-        ensures chunks { OnOk result (map (λ c. c.items) out.new.items ≡ map (λ c. c.items) out.old.items ++ settled (self.old.held ++ piece.now) self.old.cutting) }
+        ensures chunks { OnOk result
+            (map (λ c. c.items) out.new.items
+            ≡ map (λ c. c.items) out.old.items ++ settled (self.old.held ++ piece.now) self.old.cutting) }
         ensures held { OnOk result (self.new.held ≡ unsettled (self.old.held ++ piece.now) self.old.cutting) }
-        ensures stream { OnOk result ((gone : List (List ℕ)) (x : List ℕ) → HasCut self.old gone x → HasCut self.new (gone ++ settled (self.old.held ++ piece.now) self.old.cutting) (x ++ piece.now)) }
+        ensures stream { OnOk result ((gone : List (List ℕ)) (x : List ℕ) → HasCut self.old gone x
+            → HasCut self.new (gone ++ settled (self.old.held ++ piece.now) self.old.cutting)
+            (x ++ piece.now)) }
     {
         let mut rest = piece;
         loop {
@@ -77,8 +82,10 @@ impl Fixed {
 
     /// Appends to `out` the bytes that are left, if there are any, as the last chunk of the stream.
     pub fn finish(self, out: &mut Vec<Vec<u8>>) -> Result<(), Memory>
-        ensures chunks { OnOk result (map (λ c. c.items) out.new.items ≡ map (λ c. c.items) out.old.items ++ only_bytes self.held) }
-        ensures stream { (gone : List (List ℕ)) (x : List ℕ) → HasCut self gone x → gone ++ only_bytes self.held ≡ cuts x self.cutting }
+        ensures chunks { OnOk result
+            (map (λ c. c.items) out.new.items ≡ map (λ c. c.items) out.old.items ++ only_bytes self.held) }
+        ensures stream { (gone : List (List ℕ)) (x : List ℕ) → HasCut self gone x
+            → gone ++ only_bytes self.held ≡ cuts x self.cutting }
     {
         let Fixed { size: _, held } = self;
         if let Some(chunk) = held {
@@ -114,7 +121,12 @@ impl Fixed {
 /// The pieces that a stream comes in do not matter: cutting x, and then what was left of x together with y, comes to
 /// cutting x and y together. The chunks of a stream are its bytes.
 pub fn pieces_do_not_matter()
-    ensures chunks { (size : ℕ) (x y : List ℕ) → 1 ≤ size → settled (x ++ y) (cutting.Fixed size) ≡ settled x (cutting.Fixed size) ++ settled (unsettled x (cutting.Fixed size) ++ y) (cutting.Fixed size) }
-    ensures left { (size : ℕ) (x y : List ℕ) → 1 ≤ size → unsettled (x ++ y) (cutting.Fixed size) ≡ unsettled (unsettled x (cutting.Fixed size) ++ y) (cutting.Fixed size) }
+    ensures chunks { (size : ℕ) (x y : List ℕ) → 1 ≤ size
+        → settled (x ++ y) (cutting.Fixed size)
+        ≡ settled x (cutting.Fixed size)
+        ++ settled (unsettled x (cutting.Fixed size) ++ y) (cutting.Fixed size) }
+    ensures left { (size : ℕ) (x y : List ℕ) → 1 ≤ size
+        → unsettled (x ++ y) (cutting.Fixed size)
+        ≡ unsettled (unsettled x (cutting.Fixed size) ++ y) (cutting.Fixed size) }
     ensures bytes { (size : ℕ) (x : List ℕ) → concat (cuts x (cutting.Fixed size)) ≡ x }
 {}

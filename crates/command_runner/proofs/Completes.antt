@@ -1,5 +1,5 @@
 -- A run over a sound shelf where nothing failed has no fault.
-use Rattle.std.proofs.Common.{◌≡◌, ◌⊎◌, inl, inr, ⊎_elim, ◌≤◌, ◌<◌, ◌-◌, ◌^◌, ℕ, false, true, List, [], ◌∷◌, ◌++◌, length, Option, Some, None, refl, sym, ap, subst, arith, ◌∙◌}
+use Rattle.std.proofs.Common.{◌≡◌, inl, inr, ⊎_elim, ◌≤◌, ◌<◌, ◌-◌, ◌^◌, ℕ, false, true, List, [], ◌∷◌, ◌++◌, length, Option, Some, None, refl, sym, ap, subst, arith, ◌∙◌}
 use Rattle.std.specs.Prelude.{IsSome, IsSomeAnd, IfSome, Result, Ok, Err}
 use Rattle.vault_types.specs.declared.Limits.{Limits}
 use Rattle.vault_types.specs.declared.Command.{Command}
@@ -16,9 +16,9 @@ use Rattle.vault_types.specs.Generator.{fill_lines}
 use Rattle.vault_types.specs.Shelf.{Blobs, Stands}
 use Rattle.vault_types.specs.State.{State}
 use Rattle.vault_traits.specs.Counts.{Rose, RiseFrom}
-use Rattle.vault_traits.specs.Told.{Files, SinkTold, SourceTold}
+use Rattle.vault_traits.specs.Told.{Files, SinkTold}
 use Rattle.vault_types.specs.FirstDamage.{IsDamageOf}
-use Rattle.keeper_open.proofs.Lawful.{undamaged}
+use Rattle.damage_laws.proofs.Undamaged.{undamaged}
 use Rattle.store_model.specs.Leaves.{Begins}
 use Rattle.store_model.specs.World.{World, IsPrinted, report_text}
 use Rattle.store_model.specs.Filling.{outputs_text}

@@ -1,7 +1,7 @@
 -- What `fill` prints, and what it runs.
-use Rattle.std.specs.Prelude.{true, min, codes, decimal, IsSome}
+use Rattle.std.specs.Prelude.{true, min, IsSome}
 use Rattle.std.proofs.Common.{◌≡◌, ◌≤◌, ◌<◌, ◌+◌, ◌-◌, ℕ, zero, suc, List, [], ◌∷◌, ◌++◌, length, length-drop, drop, get_or, Option, Some, None, refl, sym, ap, subst, arith, ◌∙◌, append_assoc, add-one}
-use Rattle.std.proofs.Math.Seq.{drop-cons, drop-length}
+use Rattle.std.proofs.Math.Seq.{drop-cons}
 use Rattle.std.proofs.lemmas.List.{append-nil}
 use Rattle.vault_types.specs.declared.Fault.{Fault}
 use Rattle.vault_types.specs.declared.Answer.{Answer}
@@ -10,7 +10,7 @@ use Rattle.vault_types.specs.declared.Limits.{Limits}
 use Rattle.vault_types.specs.Generator.{generated, fill_lines}
 use Rattle.vault_types.specs.Script.{Sources}
 use Rattle.vault_types.specs.State.{State}
-use Rattle.vault_traits.specs.Told.{SinkTold, PlacesTold, Files, Takes}
+use Rattle.vault_traits.specs.Told.{SinkTold, Files, Takes}
 use Rattle.store_model.specs.Leaves.{Begins}
 use Rattle.store_model.specs.Outputs.{AreFedBy}
 use Rattle.store_model.specs.Room.{NeedRoom}
@@ -18,8 +18,9 @@ use Rattle.store_model.specs.Script.{RunsLines}
 use Rattle.store_model.specs.Strays.{StraysOf}
 use Rattle.store_model.specs.Filling.{AreGenerated, RunsFill, output_of, outputs_text}
 use Rattle.store_model.specs.World.{World, IsPrinted, report_text}
-use Rattle.report_printer.proofs.Written.{takes_nothing, takes_then, front_behind}
-use Rattle.workload.specs.Places.{Filling, file_at, source_name, told_of}
+use Rattle.vault_traits.proofs.Written.{takes_nothing, takes_then}
+use Rattle.report_printer.proofs.Written.{front_behind}
+use Rattle.workload.specs.Places.{FilledPlaces, file_at, source_name, told_of}
 
 -- a text that was cut off is cut off in front of another
 pub printed_first : (first second : List ℕ) (before now : SinkTold) (f : Fault) → IsPrinted first before now (Some f) → IsPrinted (first ++ second) before now (Some f)
@@ -91,16 +92,16 @@ module _ (files : Files) (lines : List Line) (answers : List Answer) (i : ℕ) (
       subst (λ (x : List ℕ). Takes before.taken mid.taken x) (sym (so_far.parts ∙ ap (λ (x : List ℕ). so_far.front ++ x) rest ∙ append-nil so_far.front)) so_far.taken
 
 -- the places as they are made
-pub are_generated : (seed versions : ℕ) (p made : Filling) → versions ≤ 64 → p ≡ made → made.write_faults ≡ 0 → ((v : ℕ) → 1 ≤ v → v ≤ 64 → file_at p.seed p.places (source_name v) ≡ Some (generated seed v)) → AreGenerated seed versions (told_of p)
+pub are_generated : (seed versions : ℕ) (p made : FilledPlaces) → versions ≤ 64 → p ≡ made → made.write_faults ≡ 0 → ((v : ℕ) → 1 ≤ v → v ≤ 64 → file_at p.seed p.places (source_name v) ≡ Some (generated seed v)) → AreGenerated seed versions (told_of p)
 are_generated seed versions p made few is none bytes = record {
   sources = λ v low high. bytes v low (omega (arith, few, high));
   opened = refl;
   read = refl;
-  written = ap (λ (q : Filling). q.write_faults) is ∙ none;
+  written = ap (λ (q : FilledPlaces). q.write_faults) is ∙ none;
 }
 
 -- the script over the places that were made, behind the opening of the shelf
-pub filled : (seed versions : ℕ) (limits : Limits) (before now : World) (lines slice : List Line) (answers printed : List Answer) (f : Option Fault) (made left : Filling) → lines ≡ fill_lines versions → slice ≡ lines → printed ≡ answers → AreGenerated seed versions (told_of made)
+pub filled : (seed versions : ℕ) (limits : Limits) (before now : World) (lines slice : List Line) (answers printed : List Answer) (f : Option Fault) (made left : FilledPlaces) → lines ≡ fill_lines versions → slice ≡ lines → printed ≡ answers → AreGenerated seed versions (told_of made)
     → RunsLines true (Begins before.shelf) (StraysOf before.shelf) limits slice answers before.shelf now.shelf (told_of made) (told_of left)
     → ((T : State) (sources : Sources) → Begins before.shelf T → AreFedBy (told_of made).files sources slice → IsSome (told_of made).files → NeedRoom (Some 8388671) sources T slice answers)
     → IsPrinted (report_text printed ++ outputs_text (file_at left.seed left.places) slice printed) before.out now.out f

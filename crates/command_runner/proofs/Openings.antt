@@ -1,10 +1,9 @@
 -- A run that ends where the shelf is opened.
-use Rattle.std.proofs.Common.{◌≡◌, inl, inr, ◌≤◌, ◌++◌, ℕ, List, [], ◌∷◌, Option, Some, refl, sym, ap, subst, arith, ◌∙◌}
+use Rattle.std.proofs.Common.{◌≡◌, inl, inr, ℕ, List, [], ◌∷◌, Option, Some, sym, ap, subst, ◌∙◌}
 use Rattle.std.specs.Prelude.{IsSomeAnd}
 use Rattle.vault_types.specs.declared.Fault.{Fault}
-use Rattle.vault_types.specs.declared.Fault.TheVariants as fault
 use Rattle.vault_types.specs.declared.Answer.{Answer}
-use Rattle.vault_traits.specs.Told.{ShelfTold, SinkTold}
+use Rattle.vault_traits.specs.Told.{SinkTold}
 use Rattle.store_model.specs.World.{World, status_after, report_text, IsPrinted, IsTold}
 use Rattle.store_model.specs.Early.{HasOpened, IsSameBut, IsStartFault}
 use Rattle.store_model.specs.Run.{EndsAtOpening}
@@ -19,16 +18,27 @@ not_opened Runs before now answers f g status shelf is none places input out lin
       status_is = stat ∙ ap (λ (l : List Answer). status_after l (Some g)) (sym none) ∙ ap (λ (o : Option Fault). status_after answers o) (sym is);
     }
 
--- a run of one answer, whose report is the text of its answers
-pub one_answer : (Runs : World → World → List Answer → Option Fault → Type 0) (before now : World) (a : Answer) (answers : List Answer) (f : Option Fault) (status : ℕ) → answers ≡ a ∷ [] → status ≡ status_after answers f
-    → HasOpened before.shelf → Runs before now (a ∷ []) f → GoesOn Runs before now answers f status
-one_answer Runs before now a answers f status one stat opened runs = record { course = inr (record { opened = opened; runs = subst (λ (l : List Answer). Runs before now l f) (sym one) runs }); status_is = stat }
+pub status_of_same : (status : ℕ) (answers others : List Answer) (f : Option Fault) → answers ≡ others → status ≡ status_after others f → status ≡ status_after answers f
+status_of_same status answers others f same is = is ∙ ap (λ (l : List Answer). status_after l f) (sym same)
 
-pub printed_one : (a : Answer) (answers slice : List Answer) (before now : SinkTold) (f : Option Fault) → answers ≡ a ∷ [] → slice ≡ answers → IsPrinted (report_text slice) before now f → IsPrinted (report_text (a ∷ [])) before now f
-printed_one a answers slice before now f one same printed = subst (λ (l : List Answer). IsPrinted (report_text l) before now f) (same ∙ one) printed
+-- a run of one answer, in the room that was taken for it
+module _ (a b : Answer) (one answers : List Answer) (is : one ≡ b ∷ []) (same : b ≡ a) (all : answers ≡ one) where
+  alone : one ≡ a ∷ []
+  alone = is ∙ ap (λ (x : Answer). x ∷ []) same
 
-pub pushed_one : (items before : List Answer) (a b : Answer) → items ≡ before ++ a ∷ [] → before ≡ [] → a ≡ b → items ≡ b ∷ []
-pushed_one items before a b pushed none same = pushed ∙ ap (λ (l : List Answer). l ++ a ∷ []) none ∙ ap (λ (x : Answer). x ∷ []) same
+  pub printed_one : (before now : SinkTold) (f : Option Fault) → IsPrinted (report_text one) before now f → IsPrinted (report_text (a ∷ [])) before now f
+  printed_one before now f printed = subst (λ (l : List Answer). IsPrinted (report_text l) before now f) alone printed
 
-pub status_of_slice : (status : ℕ) (answers slice : List Answer) (f : Option Fault) → slice ≡ answers → status ≡ status_after slice f → status ≡ status_after answers f
-status_of_slice status answers slice f same is = is ∙ ap (λ (l : List Answer). status_after l f) same
+  pub one_answer : (Runs : World → World → List Answer → Option Fault → Type 0) (before now : World) (f : Option Fault) (status : ℕ) → status ≡ status_after one f → HasOpened before.shelf → Runs before now (a ∷ []) f → GoesOn Runs before now answers f status
+  one_answer Runs before now f status stat opened runs = record {
+    course = inr (record { opened = opened; runs = subst (λ (l : List Answer). Runs before now l f) (sym (all ∙ alone)) runs });
+    status_is = status_of_same status answers one f all stat;
+  }
+
+-- a run whose end hands on what it was given
+pub ran : (Runs : World → World → List Answer → Option Fault → Type 0) (before now end : World) (answers others : List Answer) (f g : Option Fault) (status : ℕ) → end ≡ now → others ≡ answers → g ≡ f → status ≡ status_after answers f
+    → HasOpened before.shelf → Runs before now answers f → GoesOn Runs before end others g status
+ran Runs before now end answers others f g status there all same stat opened runs = record {
+  course = inr (record { opened = opened; runs = subst (λ (w : World). Runs before w others g) (sym there) (subst (λ (l : List Answer). Runs before now l g) (sym all) (subst (λ (h : Option Fault). Runs before now answers h) (sym same) runs)) });
+  status_is = stat ∙ ap (λ (l : List Answer). status_after l f) (sym all) ∙ ap (λ (h : Option Fault). status_after others h) (sym same);
+}

@@ -1,6 +1,6 @@
 -- What a command's run is as a run of the words.
-use Rattle.std.specs.Prelude.{true, IsSomeAnd, IfSome}
-use Rattle.std.proofs.Common.{◌≡◌, ◌⊎◌, inl, inr, ⊎_elim, ◌≤◌, ℕ, List, [], Option, Some, None, refl, sym, ap, subst, arith, ◌∙◌}
+use Rattle.std.specs.Prelude.{true, IsSomeAnd}
+use Rattle.std.proofs.Common.{◌≡◌, ◌⊎◌, inl, inr, ⊎_elim, ℕ, List, [], Option, Some, None, refl, sym, ap, subst, arith, ◌∙◌}
 use Rattle.vault_types.specs.declared.Limits.{Limits}
 use Rattle.vault_types.specs.declared.Command.{Command}
 use Rattle.vault_types.specs.declared.Command.TheVariants as command
@@ -8,14 +8,13 @@ use Rattle.vault_types.specs.declared.Fault.{Fault}
 use Rattle.vault_types.specs.declared.Fault.TheVariants as fault
 use Rattle.vault_types.specs.declared.Answer.{Answer}
 use Rattle.vault_types.specs.Words.{command_of}
-use Rattle.vault_traits.specs.Told.{ShelfTold, SourceTold}
+use Rattle.vault_traits.specs.Told.{ShelfTold}
 use Rattle.store_model.specs.World.{World, status_after, IsTold}
-use Rattle.store_model.specs.Early.{CanOpen, EndsEarly, IsBatch, IsEarly, IsSameBut, IsScript, IsScriptFault, LeavesShelfAlone}
-use Rattle.store_model.specs.Courses.{RunsBatch}
-use Rattle.store_model.specs.Run.{EndsAtOpening, IsRun, Runs, RunsOpened, with_input}
+use Rattle.store_model.specs.Early.{CanOpen, EndsEarly, IsBatch, IsEarly, IsSameBut, IsScriptFault, LeavesShelfAlone}
+use Rattle.store_model.specs.Run.{EndsAtOpening, IsRun, Runs, RunsOpened}
 use Rattle.run_laws.proofs.Openings.{ends, batch_run}
 use Rattle.command_runner.specs.Unbuilt.{IsUnbuilt, Unbuilt}
-use Rattle.command_runner.specs.Going.{BatchGoes, GoesOn, RefusesScript, RunsScript}
+use Rattle.command_runner.specs.Going.{BatchGoes, GoesOn, RefusesScript}
 
 alone : (shelf : ShelfTold) → IsSameBut shelf shelf
 alone shelf = record { blobs = refl; history = refl; gets = refl; later = omega arith }

@@ -1,5 +1,5 @@
--- Completeness: where all is well before the first line and nothing fails, there is no fault. What the lines then answer is
--- a part of the run itself (`IsRun`).
+-- Completeness: where all is well before the first line and nothing fails, there is no fault. What
+-- the lines then answer is a part of the run itself (`IsRun`).
 use Rattle.std.specs.Prelude.{◌≡◌, ◌⊎◌, ℕ, List, [], Option, Some, None, IsSome}
 use Rattle.vault_types.specs.declared.Limits.{Limits}
 use Rattle.vault_types.specs.declared.Command.{Command}
@@ -26,10 +26,11 @@ IsBuilt (command.Fill seed versions queue lanes workers) = Unit {0}
 IsBuilt command.Migrate = Unit {0}
 IsBuilt other = ⊥
 
--- over a sound shelf, where no count of faults rose and the words and the script, whose text is told, are in the grammar,
--- there is no fault, or it is a want of memory before the first line
+-- over a sound shelf, where no count of faults rose and the words and the script, whose text is
+-- told, are in the grammar, there is no fault, or it is a want of memory before the first line
 abbrev pub IsCompleteRun : List (List ℕ) → Limits → World → World → List Answer → Option Fault → Type 0
 IsCompleteRun words limits before now answers f =
-    (c : Command) (S : State) → command_of words ≡ Some c → IsBuilt c → CanOpen (Some c) limits before.input → (IsBatch (Some c) → IsSome before.input.left)
+    (c : Command) (S : State) → command_of words ≡ Some c → IsBuilt c → CanOpen (Some c) limits before.input
+    → (IsBatch (Some c) → IsSome before.input.left)
     → Begins before.shelf S → IsSound S → NoneRose before now
     → (f ≡ None) ⊎ ((answers ≡ []) × (f ≡ Some fault.Memory))

@@ -1,6 +1,5 @@
 -- The commands that no run makes yet.
 use Rattle.std.specs.Prelude.{◌≡◌, List, [], Option, Some}
-use Rattle.vault_types.specs.declared.Limits.{Limits}
 use Rattle.vault_types.specs.declared.Command.{Command}
 use Rattle.vault_types.specs.declared.Fault.{Fault}
 use Rattle.vault_types.specs.declared.Fault.TheVariants as fault

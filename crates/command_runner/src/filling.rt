@@ -4,6 +4,7 @@ ghost use Rattle.std.specs.List.{AllByRecursion};
 ghost use Rattle.vault_types.specs.Generator.{fill_lines};
 ghost use Rattle.vault_types.specs.Script.{Sources};
 ghost use Rattle.vault_types.specs.State.{State};
+ghost use Rattle.vault_traits.specs.Told.{PlacesTold};
 ghost use Rattle.store_model.specs.Leaves.{Begins};
 ghost use Rattle.store_model.specs.Outputs.{AreApartLines, AreFedBy};
 ghost use Rattle.store_model.specs.Room.{NeedRoom};
@@ -13,12 +14,12 @@ ghost use Rattle.store_model.specs.Early.{HasOpened, IsSameBut, IsStartFault};
 ghost use Rattle.store_model.specs.Filling.{AreGenerated, RunsFill};
 ghost use Rattle.store_model.specs.Ranges.{AreLimits, IsLineInRange};
 ghost use Rattle.workload.specs.Places.{told_of};
+ghost use Rattle.store_model.specs.World.{world};
 ghost use Rattle.command_runner.specs.Going.{GoesOn};
 
-use crate::ending::{Ended, ended_early};
+use crate::ending::{Ended, ended_early, ended_with};
 use crate::outputs::print_filled;
 use crate::store::ShelfStore;
-use report_printer::status_after;
 use script_runner::{Done, script_plain};
 use script_words::fill_script;
 use std::alloc::Global;
@@ -53,9 +54,15 @@ fn run_over<S: Shelf, K: ShelfStore<S>, Q: Places>(
     requires ranges { AllByRecursion IsLineInRange lines.now }
     requires limits { AreLimits limits.now }
     ensures opened { IfOk result (λ done. HasOpened (S.told shelf)) }
-    ensures runs { IfOk result (λ done. RunsLines true (Begins (S.told shelf)) (StraysOf (S.told shelf)) limits.now lines.now done.0.items (S.told shelf) (S.told done.1) (Q.told places.old) (Q.told places.new)) }
-    ensures room { IfOk result (λ done. (T : State) (sources : Sources) → Begins (S.told shelf) T → AreFedBy (Q.told places.old).files sources lines.now → IsSome (Q.told places.old).files → NeedRoom Q.room sources T lines.now done.0.items) }
-    ensures err { IfErr result (λ e. IsSameBut (S.told shelf) (S.told e.1) × IsStartFault (S.told shelf) (S.told e.1) e.0) }
+    ensures runs { IfOk result
+        (λ done.
+        RunsLines true (Begins (S.told shelf)) (StraysOf (S.told shelf)) limits.now lines.now done.0.items
+        (S.told shelf) (S.told done.1) (Q.told places.old) (Q.told places.new)) }
+    ensures room { IfOk result (λ done. (T : State) (sources : Sources) → Begins (S.told shelf) T
+        → AreFedBy (Q.told places.old).files sources lines.now → IsSome (Q.told places.old).files
+        → NeedRoom Q.room sources T lines.now done.0.items) }
+    ensures err { IfErr result (λ e. IsSameBut (S.told shelf) (S.told e.1)
+        × IsStartFault (S.told shelf) (S.told e.1) e.0) }
 {
     let store = match K::start(alloc, shelf) {
         Ok(store) => store,
@@ -71,22 +78,21 @@ fn run_over<S: Shelf, K: ShelfStore<S>, Q: Places>(
 }
 
 // Runs the script of `fill`. The report and the sums of what was restored are on `out`.
-pub(crate) fn run_fill<S: Shelf, K: ShelfStore<S>, P: Places, I: Source, O: Sink, R: Sink>(
+pub(crate) fn run_fill<S: Shelf, K: ShelfStore<S>, I: Source, O: Sink, R: Sink>(
     alloc: Global,
     seed: u64,
     versions: u32,
     limits: &Limits,
     shelf: S,
-    places: &P,
     input: I,
     out: O,
     report: &mut R,
 ) -> Ended<S, I, O>
     requires few { versions ≤ 64 }
     requires limits { AreLimits limits.now }
-    ensures { GoesOn (RunsFill true seed versions limits.now)
-        (record { shelf = S.told shelf; places = P.told places.now; input = I.told input; out = O.told out; report = R.told report.old })
-        (record { shelf = S.told result.shelf; places = P.told places.now; input = I.told result.input; out = O.told result.out; report = R.told report.new })
+    ensures { (places : PlacesTold) → GoesOn (RunsFill true seed versions limits.now)
+        (world (S.told shelf) places (I.told input) (O.told out) (R.told report.old))
+        (world (S.told result.shelf) places (I.told result.input) (O.told result.out) (R.told report.new))
         result.answers.items result.fault result.status }
 {
     let (lines, made) = match script_and_places(alloc, seed, versions) {
@@ -102,12 +108,5 @@ pub(crate) fn run_fill<S: Shelf, K: ShelfStore<S>, P: Places, I: Source, O: Sink
         Err((fault, shelf)) => return ended_early(alloc, fault, shelf, input, out, report),
     };
     let fault = print_filled(script, answers.as_slice(), &made, &mut out);
-    Ended {
-        status: status_after(answers.as_slice(), fault),
-        fault,
-        answers,
-        shelf,
-        input,
-        out,
-    }
+    ended_with(shelf, answers, fault, input, out)
 }

@@ -14,7 +14,8 @@ use workload::FillPlaces;
 
 // Prints the line of a version that was restored.
 fn print_sum<O: Sink>(version: Version, sum: &Fp, out: &mut O) -> Option<Fault>
-    ensures printed { (bytes : List ℕ) → sum.now ≡ fp bytes → IsPrinted (texts.output_text version bytes) (O.told out.old) (O.told out.new) result }
+    ensures printed { (bytes : List ℕ) → sum.now ≡ fp bytes
+        → IsPrinted (texts.output_text version bytes) (O.told out.old) (O.told out.new) result }
     ensures later { (O.told out.old).faults ≤ (O.told out.new).faults }
 {
     let mut line = [0; 256];
@@ -32,7 +33,8 @@ fn print_output<O: Sink>(
     places: &FillPlaces,
     out: &mut O,
 ) -> Option<Fault>
-    ensures printed { IsPrinted (output_of (file_at places.now.seed places.now.places) line.now answer.now) (O.told out.old) (O.told out.new) result }
+    ensures printed { IsPrinted (output_of (file_at places.now.seed places.now.places) line.now answer.now)
+        (O.told out.old) (O.told out.new) result }
     ensures later { (O.told out.old).faults ≤ (O.told out.new).faults }
 {
     match line {
@@ -51,7 +53,8 @@ fn print_outputs<O: Sink>(
     places: &FillPlaces,
     out: &mut O,
 ) -> Option<Fault>
-    ensures { IsPrinted (outputs_text (file_at places.now.seed places.now.places) lines.now answers.now) (O.told out.old) (O.told out.new) result }
+    ensures { IsPrinted (outputs_text (file_at places.now.seed places.now.places) lines.now answers.now)
+        (O.told out.old) (O.told out.new) result }
 {
     let count = lines.len().min(answers.len());
     for at in 0..count {
@@ -71,7 +74,10 @@ pub(crate) fn print_filled<O: Sink>(
     places: &FillPlaces,
     out: &mut O,
 ) -> Option<Fault>
-    ensures { IsPrinted (report_text answers.now ++ outputs_text (file_at places.now.seed places.now.places) lines.now answers.now) (O.told out.old) (O.told out.new) result }
+    ensures { IsPrinted
+        (report_text answers.now
+        ++ outputs_text (file_at places.now.seed places.now.places) lines.now answers.now)
+        (O.told out.old) (O.told out.new) result }
 {
     match print_all(answers, out) {
         Some(fault) => Some(fault),

@@ -2,6 +2,7 @@
 ghost use Rattle.std.specs.Prelude.{true, map, string_bytes};
 ghost use Rattle.store_model.specs.Run.{IsRun};
 ghost use Rattle.store_model.specs.Ranges.{AreLimits};
+ghost use Rattle.store_model.specs.World.{world};
 ghost use Rattle.command_runner.specs.Unbuilt.{Unbuilt};
 ghost use Rattle.command_runner.specs.Going.{BatchGoes};
 ghost use Rattle.command_runner.specs.Completes.{IsCompleteRun};
@@ -32,8 +33,9 @@ fn run_command<S: Shelf, K: ShelfStore<S>, P: Places, I: Source, O: Sink, R: Sin
 ) -> Ended<S, I, O>
     requires { AreLimits limits.now }
     ensures { IsRun true Unbuilt (map string_bytes words.now) limits.now
-        (record { shelf = S.told shelf; places = P.told places.old; input = I.told input; out = O.told out; report = R.told report.old })
-        (record { shelf = S.told result.shelf; places = P.told places.new; input = I.told result.input; out = O.told result.out; report = R.told report.new })
+        (world (S.told shelf) (P.told places.old) (I.told input) (O.told out) (R.told report.old))
+        (world (S.told result.shelf) (P.told places.new)
+        (I.told result.input) (O.told result.out) (R.told report.new))
         result.answers.items result.fault result.status }
 {
     match read_words(alloc, words) {
@@ -45,9 +47,7 @@ fn run_command<S: Shelf, K: ShelfStore<S>, P: Places, I: Source, O: Sink, R: Sin
                 sample: None,
                 ..
             },
-        ) => run_backup::<S, K, P, I, O, R>(
-            alloc, set, &config, limits, shelf, places, input, out, report,
-        ),
+        ) => run_backup::<S, K, I, O, R>(alloc, set, &config, limits, shelf, input, out, report),
         Ok(
             Command::Restore {
                 set,
@@ -55,14 +55,12 @@ fn run_command<S: Shelf, K: ShelfStore<S>, P: Places, I: Source, O: Sink, R: Sin
                 cache,
                 area: None,
             },
-        ) => run_restore::<S, K, P, I, O, R>(
-            alloc, set, version, cache, limits, shelf, places, input, out, report,
+        ) => run_restore::<S, K, I, O, R>(alloc, set, version, cache, shelf, input, out, report),
+        Ok(Command::Delete { set, through }) => run_delete::<S, K, I, O, R>(
+            alloc, set, through, shelf, input, out, report,
         ),
-        Ok(Command::Delete { set, through }) => run_delete::<S, K, P, I, O, R>(
-            alloc, set, through, limits, shelf, places, input, out, report,
-        ),
-        Ok(Command::Show { set, version }) => run_show::<S, K, P, I, O, R>(
-            alloc, set, version, shelf, places, input, out, report,
+        Ok(Command::Show { set, version }) => run_show::<S, K, I, O, R>(
+            alloc, set, version, shelf, input, out, report,
         ),
         Ok(Command::Batch { .. }) => run_batch::<S, K, P, I, O, R>(
             alloc, limits, shelf, places, input, out, report,
@@ -81,12 +79,10 @@ fn run_command<S: Shelf, K: ShelfStore<S>, P: Places, I: Source, O: Sink, R: Sin
             out,
             report,
         ),
-        Ok(Command::Fill { seed, versions, .. }) => run_fill::<S, K, P, I, O, R>(
-            alloc, seed, versions, limits, shelf, places, input, out, report,
+        Ok(Command::Fill { seed, versions, .. }) => run_fill::<S, K, I, O, R>(
+            alloc, seed, versions, limits, shelf, input, out, report,
         ),
-        Ok(Command::Migrate) => run_migrate::<S, K, P, I, O, R>(
-            alloc, shelf, places, input, out, report,
-        ),
+        Ok(Command::Migrate) => run_migrate::<S, K, I, O, R>(alloc, shelf, input, out, report),
         Ok(Command::Scrub { .. }) => ended_early(alloc, Fault::Usage, shelf, input, out, report),
     }
 }
@@ -103,8 +99,9 @@ fn run_batch<S: Shelf, K: ShelfStore<S>, P: Places, I: Source, O: Sink, R: Sink>
 ) -> Ended<S, I, O>
     requires { AreLimits limits.now }
     ensures { BatchGoes limits.now
-        (record { shelf = S.told shelf; places = P.told places.old; input = I.told input; out = O.told out; report = R.told report.old })
-        (record { shelf = S.told result.shelf; places = P.told places.new; input = I.told result.input; out = O.told result.out; report = R.told report.new })
+        (world (S.told shelf) (P.told places.old) (I.told input) (O.told out) (R.told report.old))
+        (world (S.told result.shelf) (P.told places.new)
+        (I.told result.input) (O.told result.out) (R.told report.new))
         result.answers.items result.fault result.status }
 {
     let mut input = input;
@@ -139,12 +136,14 @@ pub fn run_words<S: Shelf, K: ShelfStore<S>, P: Places, I: Source, O: Sink, R: S
 ) -> Ended<S, I, O>
     requires { AreLimits limits.now }
     ensures run { IsRun true Unbuilt (map string_bytes words.now) limits.now
-        (record { shelf = S.told shelf; places = P.told places.old; input = I.told input; out = O.told out; report = R.told report.old })
-        (record { shelf = S.told result.shelf; places = P.told places.new; input = I.told result.input; out = O.told result.out; report = R.told report.new })
+        (world (S.told shelf) (P.told places.old) (I.told input) (O.told out) (R.told report.old))
+        (world (S.told result.shelf) (P.told places.new)
+        (I.told result.input) (O.told result.out) (R.told report.new))
         result.answers.items result.fault result.status }
     ensures complete { IsCompleteRun (map string_bytes words.now) limits.now
-        (record { shelf = S.told shelf; places = P.told places.old; input = I.told input; out = O.told out; report = R.told report.old })
-        (record { shelf = S.told result.shelf; places = P.told places.new; input = I.told result.input; out = O.told result.out; report = R.told report.new })
+        (world (S.told shelf) (P.told places.old) (I.told input) (O.told out) (R.told report.old))
+        (world (S.told result.shelf) (P.told places.new)
+        (I.told result.input) (O.told result.out) (R.told report.new))
         result.answers.items result.fault }
 {
     run_command::<S, K, P, I, O, R>(alloc, words, limits, shelf, places, input, out, report)

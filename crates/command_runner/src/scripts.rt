@@ -4,11 +4,11 @@ ghost use Rattle.std.specs.List.{AllByRecursion};
 ghost use Rattle.store_model.specs.Outputs.{AreApartLines};
 ghost use Rattle.store_model.specs.Run.{RanLines};
 ghost use Rattle.store_model.specs.Ranges.{AreLimits, IsLineInRange};
+ghost use Rattle.store_model.specs.World.{world};
 ghost use Rattle.command_runner.specs.Going.{GoesOn};
 
-use crate::ending::{Ended, ended_early};
+use crate::ending::{Ended, ended_early, ended_on_out};
 use crate::store::ShelfStore;
-use report_printer::{print_all, status_after};
 use script_runner::{Done, script_plain};
 use std::alloc::Global;
 use vault_traits::{Places, Shelf, Sink, Source};
@@ -29,8 +29,9 @@ pub(crate) fn run_lines<S: Shelf, K: ShelfStore<S>, P: Places, I: Source, O: Sin
     requires ranges { AllByRecursion IsLineInRange lines.now }
     requires limits { AreLimits limits.now }
     ensures { GoesOn (RanLines true lines.now limits.now)
-        (record { shelf = S.told shelf; places = P.told places.old; input = I.told input; out = O.told out; report = R.told report.old })
-        (record { shelf = S.told result.shelf; places = P.told places.new; input = I.told result.input; out = O.told result.out; report = R.told report.new })
+        (world (S.told shelf) (P.told places.old) (I.told input) (O.told out) (R.told report.old))
+        (world (S.told result.shelf) (P.told places.new)
+        (I.told result.input) (O.told result.out) (R.told report.new))
         result.answers.items result.fault result.status }
 {
     let store = match K::start(alloc, shelf) {
@@ -41,16 +42,7 @@ pub(crate) fn run_lines<S: Shelf, K: ShelfStore<S>, P: Places, I: Source, O: Sin
         Err((_, store)) => ended_early(alloc, Fault::Memory, store.close(), input, out, report),
         Ok(done) => {
             let Done { store, answers } = done;
-            let mut out = out;
-            let fault = print_all(answers.as_slice(), &mut out);
-            Ended {
-                status: status_after(answers.as_slice(), fault),
-                fault,
-                answers,
-                shelf: store.close(),
-                input,
-                out,
-            }
+            ended_on_out(store, answers, input, out)
         }
     }
 }

@@ -17,7 +17,7 @@ use Rattle.vault_types.specs.Events.{Core, Job, put_by, version_in_recipe, CanCo
 use Rattle.vault_types.proofs.SetLemmas.{has-set_of, IsAscending-set_of, ascending_unique}
 use Rattle.vault_types.proofs.StateLemmas.{row_ids}
 use Rattle.vault_types.proofs.NextLemmas.{ids_below}
-use Rattle.container_fill.proofs.SumLemmas.{fp-is_fp}
+use Rattle.vault_types.proofs.SumLemmas.{fp-is_fp}
 use Rattle.state_laws.proofs.Growing.{floor_same}
 use Rattle.commit_laws.proofs.Listing.{all_append, all_set, all_weaker, all_at, all_map, all_unmap, has_of, contains_of, has_both, themselves, ascending_append, range_low, range_ascends, found_append, found_is, none_where}
 use Rattle.commit_laws.proofs.Growing.{more_of, next_more, more_dataset, whole_fp, whole_empty, dataset_at, next_in_low, next_set, rows_with, ids_kept, ids_new, has_fp_more}

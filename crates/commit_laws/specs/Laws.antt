@@ -16,13 +16,15 @@ abbrev pub name_of : Job → Recipe → Name
 name_of job r = recipe_name job.set r.version
 
 -- the strays that were, but the recipe's name and the names of these containers
-pub record AreStraysLeft (was : List Name) (recipe : Name) (cs : List Container) (strays : List Name) : Type 0 where
+pub record AreStraysLeft (was : List Name) (recipe : Name) (cs : List Container)
+    (strays : List Name) : Type 0 where
   pub were : (n : Name) → Contains strays n → Contains was n × (n ≢ recipe) × (IsContainerName cs n → ⊥)
   pub stay : (n : Name) → Contains was n → Contains strays n ⊎ ((n ≡ recipe) ⊎ IsContainerName cs n)
 
 -- a pin of a version with those of the state's containers that have these ids
 abbrev pub pin_with : ℕ → ℕ → ℕ → List ℕ → State → Pin
-pin_with number s v ids S = record { number = number; set = s; version = v; containers = containers_of S.containers ids }
+pin_with number s v ids S =
+    record { number = number; set = s; version = v; containers = containers_of S.containers ids }
 
 -- the core with it
 abbrev pub pinned_core : ℕ → ℕ → ℕ → List ℕ → Core → Core

@@ -13,7 +13,7 @@ use Rattle.vault_types.specs.Tables.{Container}
 use Rattle.vault_types.specs.Fill.{writes, new_container, new_containers, rows_of, Filled, fill}
 use Rattle.container_fill.specs.Opened.{bytes_in}
 use Rattle.container_fill.specs.Carried.{carried, carried_how, AreInTurn}
-use Rattle.container_fill.specs.Filling.{Filling, taken_by, opened, written_in, saturated, size_of, ArePacked, Keeps, HasFilled, closed_with, closed, is_over, roomed, given_for, with_row, IsPut, IsFilledBy}
+use Rattle.container_fill.specs.Filling.{Filling, taken_by, opened, written_in, saturated, size_of, ArePacked, HasPacked, HasFilled, closed_with, closed, is_over, roomed, given_for, with_row, IsPut, IsFilledBy}
 use Rattle.container_fill.proofs.PackLemmas.{packed-fits, packed-over, packed-end, only}
 use Rattle.container_fill.proofs.PlaceLemmas.{containers-append, containers-len, opened-as, named-bytes}
 use Rattle.container_fill.proofs.StepLemmas.{writes-more, carried-more, carried-in_turn}
@@ -42,7 +42,7 @@ counts cs hs c h e =
 
 -- what one more decision comes to
 carried-as : (f : Filling) (first : ℕ) (gone : List Container) (cs : List NamedChunk) (hs : List How) (c : NamedChunk) (h d : How)
-    → length cs ≡ length hs → Keeps f first gone cs (carried cs hs) → carried_how (is_some (taken_by f c.fp)) h ≡ d
+    → length cs ≡ length hs → HasPacked f first gone cs (carried cs hs) → carried_how (is_some (taken_by f c.fp)) h ≡ d
     → carried (cs ++ c ∷ []) (hs ++ h ∷ []) ≡ carried cs hs ++ d ∷ []
 carried-as f first gone cs hs c h d e k is =
     carried-more [] cs hs c h e
@@ -63,7 +63,7 @@ pub filled-old : (f : Filling) (first : ℕ) (gone : List Container) (cs : List 
 filled-old f first gone cs hs c id h =
     let is : carried (cs ++ c ∷ []) (hs ++ Old id ∷ []) ≡ carried cs hs ++ Old id ∷ [] = carried-as f first gone cs hs c (Old id) (Old id) h.count h.keeps refl in
     let P : List How → Type 0 = λ ds. ArePacked f.capacity (writes (cs ++ c ∷ []) ds) h.full (map named_chunk f.held) in
-    let Q : List How → Type 0 = λ ds. Keeps (with_row f (record { fp = c.fp; id = id; len = length c.bytes })) first gone (cs ++ c ∷ []) ds in
+    let Q : List How → Type 0 = λ ds. HasPacked (with_row f (record { fp = c.fp; id = id; len = length c.bytes })) first gone (cs ++ c ∷ []) ds in
     record {
       full = h.full;
       gone_are = h.gone_are;
@@ -79,7 +79,7 @@ filled-own f first gone cs hs c how id new here h =
     let done : carried_how (is_some (taken_by f c.fp)) how ≡ Own = ap (λ o. carried_how (is_some o) how) here ∙ new-written how new in
     let is : carried (cs ++ c ∷ []) (hs ++ how ∷ []) ≡ carried cs hs ++ Own ∷ [] = carried-as f first gone cs hs c how Own h.count h.keeps done in
     let P : List How → Type 0 = λ ds. ArePacked f.capacity (writes (cs ++ c ∷ []) ds) h.full (map named_chunk f.held) in
-    let Q : List How → Type 0 = λ ds. Keeps (with_row f (record { fp = c.fp; id = id; len = length c.bytes })) first gone (cs ++ c ∷ []) ds in
+    let Q : List How → Type 0 = λ ds. HasPacked (with_row f (record { fp = c.fp; id = id; len = length c.bytes })) first gone (cs ++ c ∷ []) ds in
     record {
       full = h.full;
       gone_are = h.gone_are;
@@ -166,7 +166,7 @@ put-closed f g first gone full written chunk (o ∷ os) e next gone_are packed o
 -- a write, in a container that has room for it
 roomed-written : (b : Bool) (f g : Filling) (first : ℕ) (gone : List Container) (cs : List NamedChunk) (ds : List How) (chunk : List ℕ) (full : List (List NamedChunk))
     → is_over f (length chunk) ≡ b → gone ≡ new_containers first full → ArePacked f.capacity (writes cs ds) full (map named_chunk f.held)
-    → Keeps f first gone cs ds → g.held ≡ (cond b (closed f) f).held ++ chunk ∷ []
+    → HasPacked f first gone cs ds → g.held ≡ (cond b (closed f) f).held ++ chunk ∷ []
     → IsWritten f g first gone (cond b (opened f.next f.held) []) full (writes cs ds) (named_chunk chunk)
 roomed-written true f g first gone cs ds chunk full e gone_are packed k held =
     let over : f.capacity < bytes_in f.held + length chunk = grind (arith, nat_tests) in
@@ -177,9 +177,9 @@ roomed-written false f g first gone cs ds chunk full e gone_are packed k held =
     put-here f g first gone full (writes cs ds) chunk gone_are packed (λ some. room) held
 
 roomed-keeps : (b : Bool) (f : Filling) (first : ℕ) (gone : List Container) (cs : List NamedChunk) (ds : List How)
-    → Keeps f first gone cs ds → Keeps (cond b (closed f) f) first (gone ++ cond b (opened f.next f.held) []) cs ds
+    → HasPacked f first gone cs ds → HasPacked (cond b (closed f) f) first (gone ++ cond b (opened f.next f.held) []) cs ds
 roomed-keeps true f first gone cs ds k = keeps-closed f.held f first gone cs ds refl k
-roomed-keeps false f first gone cs ds k = let P : List Container → Type 0 = λ xs. Keeps f first xs cs ds in subst P (sym (append-nil gone)) k
+roomed-keeps false f first gone cs ds k = let P : List Container → Type 0 = λ xs. HasPacked f first xs cs ds in subst P (sym (append-nil gone)) k
 
 pub roomed-taken : (b : Bool) (f : Filling) (q : Fp) → taken_by (cond b (closed f) f) q ≡ taken_by f q
 roomed-taken true f q = ap (λ t. taken_by (record { capacity = 0; next = 0; held = []; taken = t; rows = []; containers = 0; written = 0 }) q) (closed-taken f.held f)
@@ -206,7 +206,7 @@ filled-put f g first gone cs hs chunk how new short absent put h =
     let R : ℕ → Type 0 = λ n. ArePacked n (writes cs (carried cs hs) ++ named_chunk chunk ∷ []) w.full_now (map named_chunk g.held) in
     let S : List NamedChunk → Type 0 = λ ws. ArePacked g.capacity ws w.full_now (map named_chunk g.held) in
     let P : List How → Type 0 = λ ds. ArePacked g.capacity (writes (cs ++ named_chunk chunk ∷ []) ds) w.full_now (map named_chunk g.held) in
-    let Q : List How → Type 0 = λ ds. Keeps g first (gone ++ given_for f (length chunk)) (cs ++ named_chunk chunk ∷ []) ds in
+    let Q : List How → Type 0 = λ ds. HasPacked g first (gone ++ given_for f (length chunk)) (cs ++ named_chunk chunk ∷ []) ds in
     record {
       full = w.full_now;
       gone_are = w.gone_now;

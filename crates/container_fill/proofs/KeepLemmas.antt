@@ -13,7 +13,7 @@ use Rattle.vault_types.specs.Decide.{is_written, is_write}
 use Rattle.vault_types.specs.Tables.{Container}
 use Rattle.vault_types.specs.Fill.{rows_of, new_container}
 use Rattle.vault_types.proofs.FillLemmas.{same_fps}
-use Rattle.container_fill.specs.Filling.{Filling, taken_by, opened, place_of, written_in, saturated, places_of, Keeps, closed_with, with_row, IsPut}
+use Rattle.container_fill.specs.Filling.{Filling, taken_by, opened, place_of, written_in, saturated, places_of, HasPacked, closed_with, with_row, IsPut}
 use Rattle.container_fill.proofs.FpLemmas.{same-refl, same-symm}
 use Rattle.container_fill.proofs.PlaceLemmas.{place-put, written-put, opened-len}
 use Rattle.container_fill.proofs.StepLemmas.{rows-more, rows-stay, places-more, takers-more, takers-stay}
@@ -36,8 +36,8 @@ no_write false true = refl
 no_write false false = refl
 
 pub keeps-closed : (held : List (List ℕ)) (f : Filling) (first : ℕ) (gone : List Container) (cs : List NamedChunk) (ds : List How)
-    → f.held ≡ held → Keeps f first gone cs ds → Keeps (closed_with held f) first (gone ++ opened f.next held) cs ds
-keeps-closed [] f first gone cs ds e k = let P : List Container → Type 0 = λ xs. Keeps f first xs cs ds in subst P (sym (append-nil gone)) k
+    → f.held ≡ held → HasPacked f first gone cs ds → HasPacked (closed_with held f) first (gone ++ opened f.next held) cs ds
+keeps-closed [] f first gone cs ds e k = let P : List Container → Type 0 = λ xs. HasPacked f first xs cs ds in subst P (sym (append-nil gone)) k
 keeps-closed (c ∷ rest) f first gone cs ds e k =
     let last : Container = new_container f.next (map named_chunk (c ∷ rest)) in
     let same : all_of f gone ≡ (gone ++ last ∷ []) ++ [] = ap (λ h. gone ++ opened f.next h) e ∙ sym (append-nil (gone ++ last ∷ [])) in
@@ -63,7 +63,7 @@ one_more : {X : Type 0} (cs : List X) (c : X) → length (cs ++ c ∷ []) ≡ le
 one_more cs c = length-append cs (c ∷ [])
 
 pub keeps-old : (f : Filling) (first : ℕ) (gone : List Container) (cs : List NamedChunk) (ds : List How) (c : NamedChunk) (id : ℕ)
-    → Keeps f first gone cs ds → Keeps (with_row f (record { fp = c.fp; id = id; len = length c.bytes })) first gone (cs ++ c ∷ []) (ds ++ Old id ∷ [])
+    → HasPacked f first gone cs ds → HasPacked (with_row f (record { fp = c.fp; id = id; len = length c.bytes })) first gone (cs ++ c ∷ []) (ds ++ Old id ∷ [])
 keeps-old f first gone cs ds c id k =
     let a : length (cs ++ c ∷ []) ≡ length cs + 1 = one_more cs c in
     let b : length (ds ++ Old id ∷ []) ≡ length ds + 1 = one_more ds (Old id) in
@@ -84,7 +84,7 @@ keeps-old f first gone cs ds c id k =
     }
 
 pub keeps-own : (f : Filling) (first : ℕ) (gone : List Container) (cs : List NamedChunk) (ds : List How) (c : NamedChunk) (id : ℕ)
-    → taken_by f c.fp ≡ Some id → Keeps f first gone cs ds → Keeps (with_row f (record { fp = c.fp; id = id; len = length c.bytes })) first gone (cs ++ c ∷ []) (ds ++ Own ∷ [])
+    → taken_by f c.fp ≡ Some id → HasPacked f first gone cs ds → HasPacked (with_row f (record { fp = c.fp; id = id; len = length c.bytes })) first gone (cs ++ c ∷ []) (ds ++ Own ∷ [])
 keeps-own f first gone cs ds c id here k =
     let a : length (cs ++ c ∷ []) ≡ length cs + 1 = one_more cs c in
     let b : length (ds ++ Own ∷ []) ≡ length ds + 1 = one_more ds Own in
@@ -122,7 +122,7 @@ still_some false id o e = e
 
 pub keeps-put : (f g : Filling) (first : ℕ) (gone : List Container) (cs : List NamedChunk) (ds : List How) (chunk : List ℕ)
     → length chunk ≤ 65536 → taken_by f (fp chunk) ≡ None → IsPut f g chunk
-    → Keeps f first gone cs ds → Keeps g first gone (cs ++ named_chunk chunk ∷ []) (ds ++ Write ∷ [])
+    → HasPacked f first gone cs ds → HasPacked g first gone (cs ++ named_chunk chunk ∷ []) (ds ++ Write ∷ [])
 keeps-put f g first gone cs ds chunk short absent put k =
     let a : length (cs ++ named_chunk chunk ∷ []) ≡ length cs + 1 = one_more cs (named_chunk chunk) in
     let b : length (ds ++ Write ∷ []) ≡ length ds + 1 = one_more ds Write in

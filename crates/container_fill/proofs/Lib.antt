@@ -1,4 +1,3 @@
-pub mod SumLemmas
 pub mod FpLemmas
 pub mod OpenLemmas
 pub mod PackLemmas

@@ -12,7 +12,7 @@ use Rattle.vault_types.specs.Tables.{Container, table_row, payload_len, IsTable,
 use Rattle.vault_types.specs.Fill.{new_container}
 use Rattle.vault_types.specs.Bytes.{chunks_of_rows}
 use Rattle.container_fill.specs.Opened.{bytes_in, IsOpen}
-use Rattle.container_fill.proofs.SumLemmas.{fp-is_fp}
+use Rattle.vault_types.proofs.SumLemmas.{fp-is_fp}
 use Rattle.container_fill.proofs.FpLemmas.{same-equivalence}
 
 pub chunks_again : (chunks : List (List ℕ)) → chunks_of_rows (map table_row chunks) (concat chunks) ≡ chunks

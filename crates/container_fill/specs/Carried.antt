@@ -19,7 +19,8 @@ abbrev pub carried_behind : List (Fp × How) → List NamedChunk → List How �
 carried_behind places [] hows = []
 carried_behind places (c ∷ cs) [] = []
 carried_behind places (c ∷ cs) (h ∷ hows) =
-    carried_how (is_written places c.fp) h ∷ carried_behind (places ++ (c.fp, carried_how (is_written places c.fp) h) ∷ []) cs hows
+    carried_how (is_written places c.fp) h
+    ∷ carried_behind (places ++ (c.fp, carried_how (is_written places c.fp) h) ∷ []) cs hows
 
 -- what the decisions come to
 abbrev pub carried : List NamedChunk → List How → List How
@@ -34,7 +35,8 @@ IsInTurn places f Write = is_written places f ≡ false
 abbrev pub AreInTurnBehind : List (Fp × How) → List NamedChunk → List How → Type 0
 AreInTurnBehind places [] hows = Unit {0}
 AreInTurnBehind places (c ∷ cs) [] = Unit {0}
-AreInTurnBehind places (c ∷ cs) (h ∷ hows) = IsInTurn places c.fp h × AreInTurnBehind (places ++ (c.fp, h) ∷ []) cs hows
+AreInTurnBehind places (c ∷ cs) (h ∷ hows) =
+    IsInTurn places c.fp h × AreInTurnBehind (places ++ (c.fp, h) ∷ []) cs hows
 
 abbrev pub AreInTurn : List NamedChunk → List How → Type 0
 AreInTurn chunks hows = AreInTurnBehind [] chunks hows

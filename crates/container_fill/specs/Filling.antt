@@ -58,8 +58,10 @@ abbrev pub size_of : NamedChunk → ℕ
 size_of c = length c.bytes
 
 -- these pieces of what is written are full, whatever follows, and the others are still held
-pub record ArePacked (capacity : ℕ) (written : List NamedChunk) (full : List (List NamedChunk)) (held : List NamedChunk) : Type 0 where
-  pub split : (more : List NamedChunk) → pieces size_of capacity (written ++ more) ≡ full ++ pieces size_of capacity (held ++ more)
+pub record ArePacked (capacity : ℕ) (written : List NamedChunk) (full : List (List NamedChunk))
+    (held : List NamedChunk) : Type 0 where
+  pub split : (more : List NamedChunk)
+      → pieces size_of capacity (written ++ more) ≡ full ++ pieces size_of capacity (held ++ more)
   pub fits : (length held ≤ 1) ⊎ (sum_by size_of held ≤ capacity)
 
 -- each chunk that is not old has a container
@@ -76,7 +78,8 @@ places_of (c ∷ cs) [] = []
 places_of (c ∷ cs) (h ∷ hows) = (c.fp, h) ∷ places_of cs hows
 
 -- the chunks and what was done with each, where these containers were given out and the last one is held
-pub record Keeps (f : Filling) (first : ℕ) (gone : List Container) (chunks : List NamedChunk) (done : List How) : Type 0 where
+pub record HasPacked (f : Filling) (first : ℕ) (gone : List Container) (chunks : List NamedChunk)
+    (done : List How) : Type 0 where
   pub count : length chunks ≡ length done
   pub next : f.next ≡ first + length gone
   pub taken : (g : Fp) → taken_by f g ≡ place_of (gone ++ opened f.next f.held) g
@@ -88,13 +91,15 @@ pub record Keeps (f : Filling) (first : ℕ) (gone : List Container) (chunks : L
   pub few : length (gone ++ opened f.next f.held) ≤ length chunks
   pub small : written_in (gone ++ opened f.next f.held) ≤ 65536 * length chunks
 
--- the filler began with this id, was given these chunks with these decisions, and has given out these containers
-pub record HasFilled (f : Filling) (first : ℕ) (gone : List Container) (chunks : List NamedChunk) (hows : List How) : Type 0 where
+-- the filler began with this id, was given these chunks with these decisions, and has given out
+-- these containers
+pub record HasFilled (f : Filling) (first : ℕ) (gone : List Container) (chunks : List NamedChunk)
+    (hows : List How) : Type 0 where
   pub full : List (List NamedChunk)
   pub gone_are : gone ≡ new_containers first full
   pub packed : ArePacked f.capacity (writes chunks (carried chunks hows)) full (map named_chunk f.held)
   pub count : length chunks ≡ length hows
-  pub keeps : Keeps f first gone chunks (carried chunks hows)
+  pub keeps : HasPacked f first gone chunks (carried chunks hows)
 
 -- the container that is held is given out
 abbrev pub closed_with : List (List ℕ) → Filling → Filling
@@ -144,7 +149,8 @@ pub record IsPut (f g : Filling) (chunk : List ℕ) : Type 0 where
   pub written : g.written ≡ saturated (f.written + length chunk)
 
 -- what a filler comes to, where it gives out these containers at last
-pub record IsFilledBy (last : List Container) (rows : List Row) (next containers written : ℕ) (first : ℕ) (gone : List Container) (count : ℕ) (F : Filled) : Type 0 where
+pub record IsFilledBy (last : List Container) (rows : List Row) (next containers written : ℕ) (first : ℕ)
+    (gone : List Container) (count : ℕ) (F : Filled) : Type 0 where
   pub containers_are : gone ++ last ≡ F.containers
   pub rows_are : rows ≡ F.rows
   pub next_is : next ≡ first + length F.containers

@@ -80,9 +80,11 @@ impl Filler {
     /// filler has not yet written its fingerprint; else its row names the container that took it. A chunk larger than
     /// the capacity is a container by itself. After `Memory` the filler is only dropped.
     pub fn push(&mut self, alloc: Global, decided: Decided) -> Result<Option<Unsealed>, Memory>
-        ensures filled { IfOk result (λ given. (first : ℕ) (gone : List Container) (chunks : List NamedChunk) (hows : List How)
+        ensures filled { IfOk result
+            (λ given. (first : ℕ) (gone : List Container) (chunks : List NamedChunk) (hows : List How)
             → HasFilled self.old first gone chunks hows
-            → HasFilled self.new first (gone ++ option_to_list given) (chunks ++ named_chunk decided.chunk ∷ []) (hows ++ decided.how ∷ [])) }
+            → HasFilled self.new first (gone ++ option_to_list given)
+            (chunks ++ named_chunk decided.chunk ∷ []) (hows ++ decided.how ∷ [])) }
         ensures id { IfOk result (λ given. IfSome given (λ s. s.table.id ≡ self.old.next)) }
         ensures next { IfOk result (λ given. self.new.next ≡ self.old.next + length (option_to_list given)) }
         ensures capacity { OnOk result (self.new.capacity ≡ self.old.capacity) }
@@ -127,12 +129,14 @@ impl Filler {
     pub fn finish(self) -> Filled
         ensures filled { (first : ℕ) (gone : List Container) (chunks : List NamedChunk) (hows : List How)
             → HasFilled self first gone chunks hows
-            → IsFilledBy (option_to_list result.last) result.rows result.next result.containers result.written first gone (length chunks) (fill first chunks (carried chunks hows) self.capacity) }
+            → IsFilledBy (option_to_list result.last) result.rows result.next result.containers result.written
+            first gone (length chunks) (fill first chunks (carried chunks hows) self.capacity) }
 
         // Decisions in which an own write has an earlier write, and a write has none, are carried out as they are.
         ensures in_turn { (first : ℕ) (gone : List Container) (chunks : List NamedChunk) (hows : List How)
             → HasFilled self first gone chunks hows → AreInTurn chunks hows
-            → IsFilledBy (option_to_list result.last) result.rows result.next result.containers result.written first gone (length chunks) (fill first chunks hows self.capacity) }
+            → IsFilledBy (option_to_list result.last) result.rows result.next result.containers result.written
+            first gone (length chunks) (fill first chunks hows self.capacity) }
         ensures id { IfSome result.last (λ s. s.table.id ≡ self.next) }
         ensures next { result.next ≡ self.next + length (option_to_list result.last) }
     {
@@ -215,7 +219,8 @@ impl Filler {
 
     // Writes a chunk that fits into the container that is held.
     fn put(&mut self, alloc: Global, chunk: &Chunk) -> Result<(), Memory>
-        requires fits { 1 ≤ length self.old.held → bytes_in self.old.held + length chunk.now ≤ self.old.capacity }
+        requires fits { 1 ≤ length self.old.held
+            → bytes_in self.old.held + length chunk.now ≤ self.old.capacity }
         requires first { taken_by self.old (fp chunk.now) ≡ None }
         ensures { OnOk result (IsPut self.old self.new chunk.now) }
     {

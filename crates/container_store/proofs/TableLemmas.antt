@@ -6,7 +6,7 @@ use Rattle.std.proofs.lemmas.List.Sums.{sum_by-cons}
 use Rattle.vault_types.specs.declared.TableRow.{TableRow}
 use Rattle.vault_types.specs.declared.Table.{Table}
 use Rattle.vault_types.specs.Names.{IsFp, same_fp}
-use Rattle.container_store.specs.Reading.{FitsRow, HasWidths}
+use Rattle.container_store.specs.Reading.{FitsTableRow, HasTableWidths}
 use Rattle.vault_types.specs.Tables.{payload_len, IsTable}
 
 few : (rows : List TableRow) → AllByRecursion (λ r. (1 ≤ r.len) × (r.len ≤ 65536)) rows → length rows ≤ payload_len rows
@@ -24,18 +24,18 @@ pub short_payload : (rows : List TableRow) → All (λ r. (1 ≤ r.len) × (r.le
 short_payload rows lens few = omega (arith, few_bytes rows (recursion_from_All (λ r. (1 ≤ r.len) × (r.len ≤ 65536)) rows lens))
 
 -- a table that has a spelling has numbers and sums of their widths
-widths : (rows : List TableRow) → AllByRecursion (λ r. (1 ≤ r.len) × (r.len ≤ 65536)) rows → AllByRecursion (λ r. IsFp r.fp) rows → AllByRecursion FitsRow rows
+widths : (rows : List TableRow) → AllByRecursion (λ r. (1 ≤ r.len) × (r.len ≤ 65536)) rows → AllByRecursion (λ r. IsFp r.fp) rows → AllByRecursion FitsTableRow rows
 widths [] lens fps = tt
 widths (r ∷ rows) lens fps = ((fps.0, omega (arith, lens.0.1)), widths rows lens.1 fps.1)
 
-pub has_widths : (t : Table) → IsTable t → HasWidths t
+pub has_widths : (t : Table) → IsTable t → HasTableWidths t
 has_widths t rules = record { id = rules.id_high; few = omega (arith, few_rows t rules); rows = widths t.rows rules.lens rules.fps; payload_sum = rules.payload_sum }
 
-only_fps : (rows : List TableRow) → AllByRecursion FitsRow rows → AllByRecursion (λ r. IsFp r.fp) rows
+only_fps : (rows : List TableRow) → AllByRecursion FitsTableRow rows → AllByRecursion (λ r. IsFp r.fp) rows
 only_fps [] fits = tt
 only_fps (r ∷ rows) fits = (fits.0.0, only_fps rows fits.1)
 
-pub is_table : (t : Table) → HasWidths t → 1 ≤ t.id → 1 ≤ length t.rows → All (λ r. (1 ≤ r.len) × (r.len ≤ 65536)) t.rows → payload_len t.rows ≤ 4194304 → IsDistinct same_fp (map (λ r. r.fp) t.rows) → IsTable t
+pub is_table : (t : Table) → HasTableWidths t → 1 ≤ t.id → 1 ≤ length t.rows → All (λ r. (1 ≤ r.len) × (r.len ≤ 65536)) t.rows → payload_len t.rows ≤ 4194304 → IsDistinct same_fp (map (λ r. r.fp) t.rows) → IsTable t
 is_table t fits id count lens total differ = record {
   id_low = id;
   id_high = fits.id;

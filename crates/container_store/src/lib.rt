@@ -65,16 +65,22 @@ pub fn decode_table(alloc: Global, bytes: &[u8], id: Id) -> Result<Option<Table>
 
 /// Puts the payload and then the table. `StoreFault`, `Memory`.
 pub fn put<S: Shelf>(alloc: Global, shelf: &mut S, sealed: &Sealed) -> Result<(), Fault>
-    ensures ok { OnOk result (AreWritten (S.told shelf.old).blobs (S.told shelf.new).blobs (S.told shelf.old).history (S.told shelf.new).history
-        (payload_name sealed.now.table.id) (Some (payload_of sealed.now)) (table_name sealed.now.table.id) (Some (table_bytes sealed.now.table))) }
+    ensures ok { OnOk result
+        (AreWritten (S.told shelf.old).blobs (S.told shelf.new).blobs (S.told shelf.old).history
+        (S.told shelf.new).history
+        (payload_name sealed.now.table.id) (Some (payload_of sealed.now)) (table_name sealed.now.table.id)
+        (Some (table_bytes sealed.now.table))) }
 
     // After an `Err` the table is not there unless the payload is.
-    ensures at_most { MayBeWrittenInTurn (S.told shelf.old).blobs (S.told shelf.new).blobs (S.told shelf.old).history (S.told shelf.new).history
-        (payload_name sealed.now.table.id) (Some (payload_of sealed.now)) (table_name sealed.now.table.id) (Some (table_bytes sealed.now.table)) }
+    ensures at_most { MayBeWrittenInTurn (S.told shelf.old).blobs (S.told shelf.new).blobs
+        (S.told shelf.old).history (S.told shelf.new).history
+        (payload_name sealed.now.table.id) (Some (payload_of sealed.now)) (table_name sealed.now.table.id)
+        (Some (table_bytes sealed.now.table)) }
 
     // For want of memory nothing was written, or the payload alone.
     ensures memory { IsErrOf result fault.Memory → IsAsBefore (S.told shelf.old) (S.told shelf.new)
-        ⊎ IsWritten (S.told shelf.old).blobs (S.told shelf.new).blobs (S.told shelf.old).history (S.told shelf.new).history (payload_name sealed.now.table.id) (Some (payload_of sealed.now)) }
+        ⊎ IsWritten (S.told shelf.old).blobs (S.told shelf.new).blobs (S.told shelf.old).history
+        (S.told shelf.new).history (payload_name sealed.now.table.id) (Some (payload_of sealed.now)) }
     ensures gets { (S.told shelf.new).gets ≡ (S.told shelf.old).gets }
     ensures causes { HasCauses (S.told shelf.old).faults (S.told shelf.new).faults IsUndamaged result }
 {
@@ -90,16 +96,20 @@ fn put_two<S: Shelf>(
     payload: &[u8],
     table: &[u8],
 ) -> Result<(), Fault>
-    ensures ok { OnOk result (AreWritten (S.told shelf.old).blobs (S.told shelf.new).blobs (S.told shelf.old).history (S.told shelf.new).history
+    ensures ok { OnOk result
+        (AreWritten (S.told shelf.old).blobs (S.told shelf.new).blobs (S.told shelf.old).history
+        (S.told shelf.new).history
         (payload_name id) (Some payload.now) (table_name id) (Some table.now)) }
 
     // After an `Err` the table is not there unless the payload is.
-    ensures at_most { MayBeWrittenInTurn (S.told shelf.old).blobs (S.told shelf.new).blobs (S.told shelf.old).history (S.told shelf.new).history
+    ensures at_most { MayBeWrittenInTurn (S.told shelf.old).blobs (S.told shelf.new).blobs
+        (S.told shelf.old).history (S.told shelf.new).history
         (payload_name id) (Some payload.now) (table_name id) (Some table.now) }
 
     // For want of memory nothing was written, or the payload alone.
     ensures memory { IsErrOf result fault.Memory → IsAsBefore (S.told shelf.old) (S.told shelf.new)
-        ⊎ IsWritten (S.told shelf.old).blobs (S.told shelf.new).blobs (S.told shelf.old).history (S.told shelf.new).history (payload_name id) (Some payload.now) }
+        ⊎ IsWritten (S.told shelf.old).blobs (S.told shelf.new).blobs (S.told shelf.old).history
+        (S.told shelf.new).history (payload_name id) (Some payload.now) }
     ensures gets { (S.told shelf.new).gets ≡ (S.told shelf.old).gets }
     ensures causes { HasCauses (S.told shelf.old).faults (S.told shelf.new).faults IsUndamaged result }
 {
@@ -114,10 +124,12 @@ fn put_two<S: Shelf>(
 
 /// The table of a container, as the shelf has it. `StoreFault`, `Damaged`, `Memory`.
 pub fn get_table<S: Shelf>(alloc: Global, shelf: &mut S, id: Id) -> Result<Table, Fault>
-    ensures found { IfOk result (λ t. (bytes : List ℕ) × Has (S.told shelf.old).blobs (table_name id) (Some bytes) × SpellsTable id bytes t) }
+    ensures found { IfOk result (λ t. (bytes : List ℕ)
+        × Has (S.told shelf.old).blobs (table_name id) (Some bytes) × SpellsTable id bytes t) }
     ensures kept { IsAsBefore (S.told shelf.old) (S.told shelf.new) }
     ensures gets { (S.told shelf.new).gets ≡ (S.told shelf.old).gets }
-    ensures causes { HasCauses (S.told shelf.old).faults (S.told shelf.new).faults (IsTableDamage (S.told shelf.old).blobs id) result }
+    ensures causes { HasCauses (S.told shelf.old).faults (S.told shelf.new).faults
+        (IsTableDamage (S.told shelf.old).blobs id) result }
 {
     let bytes = match shelf.get(alloc, name_of(Kind::Table, id)) {
         Ok(Some(bytes)) => bytes,
@@ -137,7 +149,8 @@ pub fn load<S: Shelf>(alloc: Global, shelf: &mut S, table: &Table) -> Result<Vec
     ensures loaded { IfOk result (λ bytes. IsLoaded (S.told shelf.old).blobs table.now bytes.items) }
     ensures kept { IsAsBefore (S.told shelf.old) (S.told shelf.new) }
     ensures gets { (S.told shelf.new).gets ≡ counted (S.told shelf.old).gets }
-    ensures causes { HasCauses (S.told shelf.old).faults (S.told shelf.new).faults (IsPayloadDamage (S.told shelf.old).blobs table.now) result }
+    ensures causes { HasCauses (S.told shelf.old).faults (S.told shelf.new).faults
+        (IsPayloadDamage (S.told shelf.old).blobs table.now) result }
 {
     let bytes = match shelf.get(alloc, name_of(Kind::Payload, table.id)) {
         Ok(Some(bytes)) => bytes,
@@ -180,9 +193,12 @@ fn payload_fault(table: &Table, bytes: &[u8]) -> Option<Why>
 /// Takes the table out and then the payload. The payload's removal isn't tried where that of the table failed. Takes no
 /// memory.
 pub fn remove<S: Shelf>(shelf: &mut S, id: Id) -> Result<(), Failed>
-    ensures ok { OnOk result (AreWritten (S.told shelf.old).blobs (S.told shelf.new).blobs (S.told shelf.old).history (S.told shelf.new).history
+    ensures ok { OnOk result
+        (AreWritten (S.told shelf.old).blobs (S.told shelf.new).blobs (S.told shelf.old).history
+        (S.told shelf.new).history
         (table_name id) None (payload_name id) None) }
-    ensures at_most { MayBeWrittenInTurn (S.told shelf.old).blobs (S.told shelf.new).blobs (S.told shelf.old).history (S.told shelf.new).history
+    ensures at_most { MayBeWrittenInTurn (S.told shelf.old).blobs (S.told shelf.new).blobs
+        (S.told shelf.old).history (S.told shelf.new).history
         (table_name id) None (payload_name id) None }
     ensures gets { (S.told shelf.new).gets ≡ (S.told shelf.old).gets }
     ensures cause { HasFailed (S.told shelf.old).faults (S.told shelf.new).faults result }
@@ -200,5 +216,6 @@ fn name_of(kind: Kind, number: u64) -> Name
 /// Each table has one spelling, and no spelling of a table begins another of the same container.
 pub fn tables_are_told_apart()
     ensures one { (id : ℕ) (t : Tables) (a b : List ℕ) → SpellsTable id a t → SpellsTable id b t → a ≡ b }
-    ensures apart { (id : ℕ) (t u : Tables) (a b more : List ℕ) → SpellsTable id a t → SpellsTable id b u → a ++ more ≡ b → (t ≡ u) × (more ≡ []) }
+    ensures apart { (id : ℕ) (t u : Tables) (a b more : List ℕ) → SpellsTable id a t → SpellsTable id b u
+        → a ++ more ≡ b → (t ≡ u) × (more ≡ []) }
 {}

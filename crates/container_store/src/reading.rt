@@ -5,8 +5,8 @@ ghost use Rattle.vault_types.specs.Names.{same_fp};
 ghost use Rattle.vault_types.specs.Tables.{IsTable, payload_len};
 ghost use Rattle.vault_types.specs.Blobs.{SpellsTable};
 ghost use Rattle.vault_types.specs.BlobDamage.{IsNoTable};
-ghost use Rattle.blob_parts.specs.Reading.{Gives, many_at, wide_at, list_at};
-ghost use Rattle.container_store.specs.Reading.{table_row_at, table_at, HasWidths};
+ghost use Rattle.blob_parts.specs.Reading.{ReadsAs, many_at, wide_at, list_at};
+ghost use Rattle.container_store.specs.Reading.{table_row_at, table_at, HasTableWidths};
 
 use blob_parts::{Unread, body_of, fp_at, tag_at, u32_at, u64_at};
 use std::alloc::Global;
@@ -36,7 +36,7 @@ pub fn read_table(alloc: Global, bytes: &[u8], id: Id) -> Result<Table, Unread>
 }
 
 fn has_rules(alloc: Global, table: &Table) -> Result<bool, Memory>
-    requires { HasWidths table.now }
+    requires { HasTableWidths table.now }
     ensures yes { IfOk result (λ b. IsTrue b → IsTable table.now) }
     ensures no { IfOk result (λ b. IsTable table.now → IsTrue b) }
 {
@@ -77,7 +77,7 @@ fn are_distinct(alloc: Global, rows: &[TableRow]) -> Result<bool, Memory>
 // All of a table but the sum of the blob, and what is behind it.
 #[tactic(auto, unfolding(crate::specs::Reading::table_at))]
 fn table_at(alloc: Global, bytes: &[u8]) -> Result<(Table, &[u8]), Unread>
-    ensures { Gives (λ x. (x.0, x.1.now)) result (table_at bytes.now) }
+    ensures { ReadsAs (λ x. (x.0, x.1.now)) result (table_at bytes.now) }
 {
     let rest = tag_at(bytes, TAG)?;
     let (id, rest) = u64_at(rest)?;
@@ -92,14 +92,14 @@ fn table_at(alloc: Global, bytes: &[u8]) -> Result<(Table, &[u8]), Unread>
 }
 
 fn rows_at(alloc: Global, bytes: &[u8]) -> Result<(Vec<TableRow>, &[u8]), Unread>
-    ensures { Gives (λ x. (x.0.items, x.1.now)) result (list_at 24 table_row_at bytes.now) }
+    ensures { ReadsAs (λ x. (x.0.items, x.1.now)) result (list_at 24 table_row_at bytes.now) }
 {
     let (count, rest) = u32_at(bytes)?;
     some_rows(alloc, count, rest)
 }
 
 fn some_rows(alloc: Global, count: u32, bytes: &[u8]) -> Result<(Vec<TableRow>, &[u8]), Unread>
-    ensures { Gives (λ x. (x.0.items, x.1.now)) result (wide_at 24 table_row_at count bytes.now) }
+    ensures { ReadsAs (λ x. (x.0.items, x.1.now)) result (wide_at 24 table_row_at count bytes.now) }
 {
     let count = count as usize;
     if bytes.len() < 24 * count {
@@ -109,7 +109,7 @@ fn some_rows(alloc: Global, count: u32, bytes: &[u8]) -> Result<(Vec<TableRow>, 
 }
 
 fn many_rows(alloc: Global, count: usize, bytes: &[u8]) -> Result<(Vec<TableRow>, &[u8]), Unread>
-    ensures { Gives (λ x. (x.0.items, x.1.now)) result (many_at table_row_at count bytes.now) }
+    ensures { ReadsAs (λ x. (x.0.items, x.1.now)) result (many_at table_row_at count bytes.now) }
 {
     let mut rows = Vec::with_capacity(alloc, count)?;
     let mut rest = bytes;
@@ -122,7 +122,7 @@ fn many_rows(alloc: Global, count: usize, bytes: &[u8]) -> Result<(Vec<TableRow>
 }
 
 fn row_at(bytes: &[u8]) -> Result<(TableRow, &[u8]), Unread>
-    ensures { Gives (λ x. (x.0, x.1.now)) result (table_row_at bytes.now) }
+    ensures { ReadsAs (λ x. (x.0, x.1.now)) result (table_row_at bytes.now) }
 {
     let (fp, rest) = fp_at(bytes)?;
     let (len, rest) = u32_at(rest)?;

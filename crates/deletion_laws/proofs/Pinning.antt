@@ -11,7 +11,8 @@ use Rattle.vault_types.specs.State.{KeptVersion, next_of, container_in}
 use Rattle.vault_types.specs.Events.{Core, Pin, put_by, pinned_containers, pins_without, pin_of, containers_of, IsCore}
 use Rattle.restore_pins.specs.Pins.{Listed, AreListsOf, ids_at}
 use Rattle.deletion_laws.specs.Deleting.{pinned_ids}
-use Rattle.deletion_laws.specs.Releasing.{released_ids, AreAlike}
+use Rattle.keeper_catalog.specs.View.{AreAlike}
+use Rattle.deletion_laws.specs.Releasing.{released_ids}
 use Rattle.state_laws.proofs.Members.{clash, of_map, in_map, has-map_append, filter_within, container_in-is, container_in-some}
 use Rattle.deletion_laws.proofs.Indexing.{containers_once}
 

@@ -16,7 +16,8 @@ use Rattle.state_laws.proofs.Standing.{needs_container, needs_pinned, container_
 use Rattle.state_laws.proofs.Changing.{told_more}
 use Rattle.keeper_catalog.specs.Catalog.{listed, table_at, AreTables}
 use Rattle.deletion_laws.specs.Deleting.{pinned_ids}
-use Rattle.deletion_laws.specs.Releasing.{released_ids, is_released, IsReleased, AreStraysReleased, AreAlike}
+use Rattle.keeper_catalog.specs.View.{AreAlike}
+use Rattle.deletion_laws.specs.Releasing.{released_ids, is_released, IsReleased, AreStraysReleased}
 use Rattle.state_laws.proofs.Members.{or_left, clash, no_member, of_map, in_map, container_in-none, container_in-is, container_in-some}
 use Rattle.deletion_laws.proofs.Keeping.{container_named}
 use Rattle.deletion_laws.proofs.Tabling.{two_parts}

@@ -18,7 +18,8 @@ pub record Deletes (K : Core) (s n floor_is : ℕ) (strays : List Name) : Type 0
   pub new_floor : floor_is ≡ max (floor_of K.state s) (n + 1)
   pub no_job : K.job ≡ None
   pub alone : K.other ≡ None
-  pub covered : (q : Name) → IsNeeded K.state (pinned_containers K.pins) q → IsNeeded (delete K.state s n) (pinned_containers K.pins) q ⊎ Contains strays q
+  pub covered : (q : Name) → IsNeeded K.state (pinned_containers K.pins) q
+      → IsNeeded (delete K.state s n) (pinned_containers K.pins) q ⊎ Contains strays q
   pub more : (q : Name) → Contains K.strays q → Contains strays q
   pub apart : (q : Name) → Contains strays q → IsNeeded (delete K.state s n) (pinned_containers K.pins) q → ⊥
 

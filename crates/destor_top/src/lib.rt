@@ -4,6 +4,7 @@
 
 ghost use Rattle.std.specs.Prelude.{true, ◌≤◌, map, string_bytes};
 ghost use Rattle.store_model.specs.Run.{IsRun};
+ghost use Rattle.store_model.specs.World.{world};
 ghost use Rattle.command_runner.specs.Completes.{IsCompleteRun};
 ghost use Rattle.command_runner.specs.Unbuilt.{Unbuilt};
 
@@ -38,12 +39,14 @@ pub fn run_plain<S: Shelf, P: Places, I: Source + Send, O: Sink + Send, R: Sink>
     requires script { 1 ≤ limits.now.script }
     requires script_high { limits.now.script ≤ 1048576 }
     ensures run { IsRun true Unbuilt (map string_bytes words.now) limits.now
-        (record { shelf = S.told shelf; places = P.told places.old; input = I.told input; out = O.told out; report = R.told report.old })
-        (record { shelf = S.told result.shelf; places = P.told places.new; input = I.told result.input; out = O.told result.out; report = R.told report.new })
+        (world (S.told shelf) (P.told places.old) (I.told input) (O.told out) (R.told report.old))
+        (world (S.told result.shelf) (P.told places.new)
+        (I.told result.input) (O.told result.out) (R.told report.new))
         result.answers.items result.fault result.status }
     ensures complete { IsCompleteRun (map string_bytes words.now) limits.now
-        (record { shelf = S.told shelf; places = P.told places.old; input = I.told input; out = O.told out; report = R.told report.old })
-        (record { shelf = S.told result.shelf; places = P.told places.new; input = I.told result.input; out = O.told result.out; report = R.told report.new })
+        (world (S.told shelf) (P.told places.old) (I.told input) (O.told out) (R.told report.old))
+        (world (S.told result.shelf) (P.told places.new)
+        (I.told result.input) (O.told result.out) (R.told report.new))
         result.answers.items result.fault }
 {
     run_words::<S, KeeperStore<S>, P, I, O, R>(

@@ -1,5 +1,5 @@
 //! Each device on real files, in a folder that is empty at first.
-use crate::calls::{faults_of, gives, has_no, lists, puts, removes, settles, write_to};
+use crate::calls::{faults_of, gives, has_no, puts, removes, settles, write_to};
 use folder_shelf::names::{has_file, push_file_name, read_file_name};
 use folder_shelf::{
     ErrSink, FolderPlaces, FolderShelf, InSource, OutSink, StreamSink, StreamSource,
@@ -143,67 +143,93 @@ fn faults_are<S: Shelf>(shelf: &S, faults: u64) -> bool {
     shelf.faults() == faults
 }
 
-fn file_is<R: Files + AllocGlobal>(rt: &R, path: &str, bytes: &[u8]) -> io::Result<bool> {
-    Ok(fs::read(rt, path)?.as_slice() == bytes)
+fn file_is<R: Files + AllocGlobal>(rt: &R, path: &str, bytes: &[u8]) -> bool {
+    match fs::read(rt, path) {
+        Ok(found) => found.as_slice() == bytes,
+        Err(_) => false,
+    }
 }
 
 // Files beside the shelf's own.
-fn add_files<R: Files>(rt: &R) -> io::Result<()> {
-    fs::write(rt, "store/table-0000000000000001.new", "left")?;
-    fs::write(rt, "store/notes", "mine")
+fn add_files<R: Files>(rt: &R) -> bool {
+    let left = fs::write(rt, "store/table-0000000000000001.new", "left").is_ok();
+    let notes = fs::write(rt, "store/notes", "mine").is_ok();
+    left && notes
+}
+
+// Whether each of these is put, the recipe twice, and settled.
+fn puts_each<S: Shelf>(alloc: Global, shelf: &mut S) -> [bool; 5] {
+    let payload = puts(alloc, shelf, PAYLOAD, b"abcdab");
+    let old = puts(alloc, shelf, RECIPE, b"old");
+    let recipe = puts(alloc, shelf, RECIPE, b"");
+    let floor = puts_floor(shelf);
+    [payload, old, recipe, floor, settles(shelf)]
+}
+
+fn put_in_folder(rt: HostRuntime) -> Result<[bool; 5], Fail> {
+    let mut shelf = started(rt.alloc(), rt)?;
+    Ok(puts_each(rt.alloc(), &mut shelf))
 }
 
 #[test]
 fn a_shelf_keeps_each_blob_in_a_file(rt: HostRuntime) -> Result<(), Fail> {
+    assert!(rt; put_in_folder(rt)? == [true; 5]);
+    let there = [
+        file_is(&rt, "store/payload-0000000000000001", b"abcdab"),
+        file_is(&rt, "store/recipe-03-00000001", b""),
+        file_is(&rt, "store/floor-03", &[7; 28]),
+    ];
+    assert!(rt; there == [true; 3]);
+    Ok(())
+}
+
+const FAR_FLOOR: Name = Name {
+    kind: Kind::Floor,
+    number: 3,
+};
+
+fn lists_each<S: Shelf>(alloc: Global, shelf: &mut S) -> bool {
+    match shelf.list(alloc) {
+        Ok(names) => names.as_slice() == [PAYLOAD, RECIPE, FAR_FLOOR].as_slice(),
+        Err(_) => false,
+    }
+}
+
+// Whether the blobs are listed, the payload is given, removed, removed again and absent, and nothing failed.
+fn gives_and_removes<S: Shelf>(alloc: Global, shelf: &mut S) -> [bool; 6] {
+    let listed = lists_each(alloc, shelf);
+    let given = gives(alloc, shelf, PAYLOAD, b"abcdab");
+    let removed = removes(shelf, PAYLOAD);
+    let again = removes(shelf, PAYLOAD);
+    let absent = has_no(alloc, shelf, PAYLOAD);
+    [listed, given, removed, again, absent, faults_are(shelf, 0)]
+}
+
+// The same beside other files, behind whether the blobs are put.
+fn given_and_removed(rt: HostRuntime) -> Result<([bool; 5], bool, [bool; 6]), Fail> {
     let alloc = rt.alloc();
     let mut shelf = started(alloc, rt)?;
-    assert!(rt;
-        puts(alloc, &mut shelf, PAYLOAD, b"abcdab") && puts(alloc, &mut shelf, RECIPE, b"old")
-    );
-    assert!(rt;
-        puts(alloc, &mut shelf, RECIPE, b"") && puts_floor(&mut shelf) && settles(&mut shelf)
-    );
-    assert!(rt; file_is(&rt, "store/payload-0000000000000001", b"abcdab")?);
-    assert!(rt;
-        file_is(&rt, "store/recipe-03-00000001", b"")? && file_is(&rt, "store/floor-03", &[7; 28])?
-    );
-    Ok(())
+    let put = puts_each(alloc, &mut shelf);
+    let added = add_files(&rt);
+    Ok((put, added, gives_and_removes(alloc, &mut shelf)))
 }
 
 #[test]
 fn a_shelf_lists_its_blobs_and_gives_and_removes_them(rt: HostRuntime) -> Result<(), Fail> {
-    let alloc = rt.alloc();
-    let mut shelf = started(alloc, rt)?;
-    assert!(rt;
-        puts(alloc, &mut shelf, PAYLOAD, b"abcdab") && puts(alloc, &mut shelf, RECIPE, b"")
-    );
-    assert!(rt; puts_floor(&mut shelf) && settles(&mut shelf));
-    add_files(&rt)?;
-    let floor = Name {
-        kind: Kind::Floor,
-        number: 3,
-    };
-    assert!(rt;
-        lists(alloc, &mut shelf, &[PAYLOAD, RECIPE, floor])?
-            && gives(alloc, &mut shelf, PAYLOAD, b"abcdab")
-    );
-    assert!(rt;
-        removes(&mut shelf, PAYLOAD)
-            && removes(&mut shelf, PAYLOAD)
-            && has_no(alloc, &mut shelf, PAYLOAD)
-            && faults_are(&shelf, 0)
-    );
+    let expected = ([true; 5], true, [true; 6]);
+    assert!(rt; given_and_removed(rt)? == expected);
     Ok(())
 }
 
 // Whether the store has each of these files, or none of them.
-fn have_files<R: Files>(rt: &R, files: &[&str], are_there: bool) -> io::Result<bool> {
+fn have_files<R: Files>(rt: &R, files: &[&str], are_there: bool) -> bool {
     for file in files {
-        if fs::exists(rt, *file)? != are_there {
-            return Ok(false);
+        match fs::exists(rt, *file) {
+            Ok(is_there) if is_there == are_there => {}
+            _ => return false,
         }
     }
-    Ok(true)
+    true
 }
 
 fn puts_more<S: Shelf>(alloc: Global, shelf: &mut S) -> bool {
@@ -231,25 +257,40 @@ const WAITING: &[&str] = &[
     "store/table-0000000000000001.new",
 ];
 
+// Whether a payload is put and waits, is put again, and a table waits behind it.
+fn two_wait<R: Files, S: Shelf>(alloc: Global, files: &R, shelf: &mut S) -> [bool; 5] {
+    let old = puts(alloc, shelf, PAYLOAD, b"old");
+    let waits = have_files(files, &WAITING[..1], true);
+    let new = puts(alloc, shelf, PAYLOAD, b"new");
+    let table = puts(alloc, shelf, TABLE, b"rows");
+    [
+        old,
+        waits,
+        new,
+        table,
+        have_files(files, &NAMED[2..], false),
+    ]
+}
+
+// Whether the payload is given, more are put, and all is settled with no fault.
+fn settles_more<S: Shelf>(alloc: Global, shelf: &mut S) -> [bool; 4] {
+    let given = gives(alloc, shelf, PAYLOAD, b"new");
+    let more = puts_more(alloc, shelf);
+    [given, more, settles(shelf), faults_are(shelf, 0)]
+}
+
+fn waited(rt: HostRuntime) -> Result<([bool; 5], [bool; 4]), Fail> {
+    let mut shelf = started(rt.alloc(), rt)?;
+    let two = two_wait(rt.alloc(), &rt, &mut shelf);
+    Ok((two, settles_more(rt.alloc(), &mut shelf)))
+}
+
 // Blobs of containers get their names at a later call: two may wait, of two names, and a settling leaves none.
 #[test]
 fn containers_get_their_names_later(rt: HostRuntime) -> Result<(), Fail> {
-    let alloc = rt.alloc();
-    let mut shelf = started(alloc, rt)?;
-    assert!(rt; puts(alloc, &mut shelf, PAYLOAD, b"old") && have_files(&rt, &WAITING[..1], true)?);
-    assert!(rt;
-        puts(alloc, &mut shelf, PAYLOAD, b"new")
-            && puts(alloc, &mut shelf, TABLE, b"rows")
-            && have_files(&rt, &NAMED[2..], false)?
-    );
-    assert!(rt;
-        gives(alloc, &mut shelf, PAYLOAD, b"new")
-            && puts_more(alloc, &mut shelf)
-            && settles(&mut shelf)
-    );
-    assert!(rt;
-        have_files(&rt, NAMED, true)? && have_files(&rt, WAITING, false)? && faults_are(&shelf, 0)
-    );
+    assert!(rt; waited(rt)? == ([true; 5], [true; 4]));
+    assert!(rt; have_files(&rt, NAMED, true));
+    assert!(rt; have_files(&rt, WAITING, false));
     Ok(())
 }
 
@@ -269,37 +310,51 @@ fn no_shelf_is_made_where_no_folder_can_be(rt: HostRuntime) -> Result<(), Fail> 
     Ok(())
 }
 
+const FAR_RECIPE: Name = Name {
+    kind: Kind::Recipe,
+    number: 1 << 40,
+};
+
+const NO_FLOOR: Name = Name {
+    kind: Kind::Floor,
+    number: 256,
+};
+
 // Whether a recipe that has no file name is refused and absent, and a floor that has none is removed.
-fn has_far_names<S: Shelf>(alloc: Global, shelf: &mut S) -> bool {
-    let far = Name {
-        kind: Kind::Recipe,
-        number: 1 << 40,
-    };
-    let floor = Name {
-        kind: Kind::Floor,
-        number: 256,
-    };
-    shelf.put(alloc, far, b"x") == Err(Refused::Failed)
-        && has_no(alloc, shelf, far)
-        && removes(shelf, floor)
+fn far_names<S: Shelf>(alloc: Global, shelf: &mut S) -> [bool; 3] {
+    let refused = shelf.put(alloc, FAR_RECIPE, b"x") == Err(Refused::Failed);
+    let absent = has_no(alloc, shelf, FAR_RECIPE);
+    [refused, absent, removes(shelf, NO_FLOOR)]
+}
+
+fn cannot_get<S: Shelf>(alloc: Global, shelf: &mut S, name: Name) -> bool {
+    matches!(shelf.get(alloc, name), Err(Refused::Failed))
 }
 
 // Whether the floor of set 0 can be neither read, nor written, nor removed.
-fn fails_at_floor<S: Shelf>(alloc: Global, shelf: &mut S) -> bool {
-    matches!(shelf.get(alloc, FLOOR), Err(Refused::Failed))
-        && shelf.put_floor(0, &[7; 28]) == Err(Failed)
-        && shelf.remove(FLOOR) == Err(Failed)
+fn fails_at_floor<S: Shelf>(alloc: Global, shelf: &mut S) -> [bool; 3] {
+    let read = cannot_get(alloc, shelf, FLOOR);
+    let written = shelf.put_floor(0, &[7; 28]) == Err(Failed);
+    [read, written, shelf.remove(FLOOR) == Err(Failed)]
+}
+
+// What fails, with the faults so far, before and behind a folder in the place of a floor.
+fn failures(rt: HostRuntime) -> Result<([bool; 3], u64, bool, [bool; 3], u64), Fail> {
+    let alloc = rt.alloc();
+    let mut shelf = started(alloc, rt)?;
+    let far = far_names(alloc, &mut shelf);
+    let one = shelf.faults();
+    let is_made = fs::create_dir(&rt, "store/floor").is_ok();
+    let floor = fails_at_floor(alloc, &mut shelf);
+    Ok((far, one, is_made, floor, shelf.faults()))
 }
 
 // A folder in the place of a blob can be neither read, nor written, nor removed as a file.
 #[test]
 fn failures_of_the_folder_are_counted(rt: HostRuntime) -> Result<(), Fail> {
-    let alloc = rt.alloc();
-    let mut shelf = started(alloc, rt)?;
-    assert!(rt; has_far_names(alloc, &mut shelf) && faults_are(&shelf, 1));
-    fs::create_dir(&rt, "store/floor")?;
-    assert!(rt; fails_at_floor(alloc, &mut shelf) && faults_are(&shelf, 4));
-    assert!(rt; have_files(&rt, &["store/floor.new"], false)?);
+    let expected = ([true; 3], 1, true, [true; 3], 4);
+    assert!(rt; failures(rt)? == expected);
+    assert!(rt; have_files(&rt, &["store/floor.new"], false));
     Ok(())
 }
 
@@ -344,19 +399,32 @@ fn opens_no_sink<P: Places>(alloc: Global, places: &mut P, name: &str) -> bool {
     }
 }
 
-#[test]
-fn places_are_the_files_of_the_current_folder(rt: HostRuntime) -> Result<(), Fail> {
+fn is_written<P: Places>(alloc: Global, places: &mut P) -> bool {
+    write_to(alloc, places, "x", b"abcd").is_ok()
+}
+
+fn is_read<P: Places>(alloc: Global, places: &mut P) -> bool {
+    match reads_of(alloc, places, "x") {
+        Ok(reads) => reads == ([Ok(3), Ok(1), Ok(0)], *b"abc"),
+        Err(_) => false,
+    }
+}
+
+// Whether a name is written, is a file then, is read, and two others do not open; and the faults of that.
+fn files_of(rt: HostRuntime) -> ([bool; 5], (u64, u64, u64)) {
     let alloc = rt.alloc();
     let mut places = FolderPlaces::new(rt);
-    write_to(alloc, &mut places, "x", b"abcd")?;
-    assert!(rt; file_is(&rt, "x", b"abcd")?);
-    assert!(rt; reads_of(alloc, &mut places, "x")? == ([Ok(3), Ok(1), Ok(0)], *b"abc"));
-    assert!(rt;
-        opens_no_source(alloc, &mut places, "absent")
-            && opens_no_sink(alloc, &mut places, "no/folder")
-    );
-    assert!(rt; faults_of(&places) == (2, 0, 0));
-    Ok(())
+    let written = is_written(alloc, &mut places);
+    let there = file_is(&rt, "x", b"abcd");
+    let read = is_read(alloc, &mut places);
+    let source = opens_no_source(alloc, &mut places, "absent");
+    let sink = opens_no_sink(alloc, &mut places, "no/folder");
+    ([written, there, read, source, sink], faults_of(&places))
+}
+
+#[test]
+fn places_are_the_files_of_the_current_folder(rt: HostRuntime) {
+    assert!(rt; files_of(rt) == ([true; 5], (2, 0, 0)));
 }
 
 fn fails_once<P: Places>(alloc: Global, places: &mut P, name: &str) -> Result<bool, Refused> {
@@ -366,12 +434,15 @@ fn fails_once<P: Places>(alloc: Global, places: &mut P, name: &str) -> Result<bo
     Ok(answer == Err(Failed))
 }
 
+fn folder_fails(rt: HostRuntime) -> Result<(bool, (u64, u64, u64)), Refused> {
+    let mut places = FolderPlaces::new(rt);
+    let fails = fails_once(rt.alloc(), &mut places, ".")?;
+    Ok((fails, faults_of(&places)))
+}
+
 #[test]
 fn a_folder_opens_and_fails_when_it_is_read(rt: HostRuntime) -> Result<(), Fail> {
-    let alloc = rt.alloc();
-    let mut places = FolderPlaces::new(rt);
-    assert!(rt; fails_once(alloc, &mut places, ".")?);
-    assert!(rt; faults_of(&places) == (0, 1, 0));
+    assert!(rt; folder_fails(rt)? == (true, (0, 1, 0)));
     Ok(())
 }
 

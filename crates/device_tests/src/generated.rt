@@ -46,21 +46,24 @@ fn faults_of(places: &FillPlaces) -> u64 {
     places.faults()
 }
 
+type Answer = Result<(), Refused>;
+
+// What two names of sources answer, what two others do, and the faults.
+fn all_opened(alloc: Global) -> Result<([Answer; 2], [Answer; 2], u64), Fail> {
+    let mut places = places(alloc)?;
+    let first = opened(alloc, &mut places, "gen-1");
+    let last = opened(alloc, &mut places, "gen-64");
+    let behind = opened(alloc, &mut places, "gen-65");
+    let other = opened(alloc, &mut places, "gen-01");
+    Ok(([first, last], [behind, other], faults_of(&places)))
+}
+
 #[test]
 fn sources_open_by_their_names(rt: HostRuntime) -> Result<(), Fail> {
-    let alloc = rt.alloc();
-    let mut places = places(alloc)?;
-    let there = [
-        opened(alloc, &mut places, "gen-1"),
-        opened(alloc, &mut places, "gen-64"),
-    ];
-    let absent = [
-        opened(alloc, &mut places, "gen-65"),
-        opened(alloc, &mut places, "gen-01"),
-    ];
+    let (there, absent, faults) = all_opened(rt.alloc())?;
     assert!(rt; there == [Ok(()), Ok(())]);
     assert!(rt; absent == [Err(Refused::Memory), Err(Refused::Memory)]);
-    assert!(rt; faults_of(&places) == 0);
+    assert!(rt; faults == 0);
     Ok(())
 }
 
@@ -79,16 +82,24 @@ fn written(
     Ok(answer?)
 }
 
-fn is_output(places: &FillPlaces, name: &str, bytes: Option<&[u8]>) -> bool {
-    places.output(name) == bytes
+// Whether an output is there, and has three bytes that were written.
+fn output_of(places: &FillPlaces, name: &str) -> [bool; 2] {
+    let found = places.output(name);
+    [found.is_some(), found == Some(b"abc".as_slice())]
+}
+
+// The output before it is written, how many bytes were, and it and another behind that.
+fn outputs(alloc: Global) -> Result<([bool; 2], usize, [bool; 2], [bool; 2]), Fail> {
+    let mut places = places(alloc)?;
+    let before = output_of(&places, "out-1");
+    let len = written(alloc, &mut places, "out-1", b"abc")?;
+    let behind = output_of(&places, "out-1");
+    Ok((before, len, behind, output_of(&places, "gen-1")))
 }
 
 #[test]
 fn outputs_are_kept(rt: HostRuntime) -> Result<(), Fail> {
-    let alloc = rt.alloc();
-    let mut places = places(alloc)?;
-    assert!(rt; is_output(&places, "out-1", None));
-    assert!(rt; written(alloc, &mut places, "out-1", b"abc")? == 3);
-    assert!(rt; is_output(&places, "out-1", Some(b"abc")) && is_output(&places, "gen-1", None));
+    let expected = ([false; 2], 3, [true; 2], [false; 2]);
+    assert!(rt; outputs(rt.alloc())? == expected);
     Ok(())
 }

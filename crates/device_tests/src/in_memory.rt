@@ -1,7 +1,5 @@
 //! Worked examples of the devices in memory.
-use crate::calls::{
-    Answer, faults_of, four_reads, four_writes, lists, read_all, removes, write_to,
-};
+use crate::calls::{Answer, faults_of, four_reads, four_writes, read_all, removes, write_to};
 use std::alloc::Global;
 use std::test::Fail;
 use vault_ports::{
@@ -104,22 +102,45 @@ fn put_more(alloc: Global, shelf: &mut MemShelf) -> Result<(), Fail> {
 }
 
 // Whether the shelf gives these bytes, and that is its only read of a payload.
-fn gives_once(alloc: Global, shelf: &mut MemShelf, name: Name, bytes: &[u8]) -> Result<bool, Fail> {
-    let found = shelf.get(alloc, name)?.ok_or("absent")?;
-    Ok(found.as_slice() == bytes && shelf.payload_gets() == 1)
+fn gives_once(alloc: Global, shelf: &mut MemShelf, name: Name, bytes: &[u8]) -> bool {
+    match shelf.get(alloc, name) {
+        Ok(Some(found)) => found.as_slice() == bytes && shelf.payload_gets() == 1,
+        _ => false,
+    }
+}
+
+// Whether the floor of set 0 has its odd bytes, and more is put; what is listed then.
+fn with_more(alloc: Global, shelf: &mut MemShelf) -> Result<([bool; 2], Vec<Name>), Fail> {
+    let odd = holds(shelf, FLOOR, b"odd");
+    put_more(alloc, shelf)?;
+    let floor = holds(shelf, FLOOR, &[9; 28]);
+    Ok(([odd, floor], shelf.list(alloc)?))
+}
+
+// Whether that floor is removed, also where it is absent; what is listed then; and whether a payload is given.
+fn without_floor(alloc: Global, shelf: &mut MemShelf) -> Result<([bool; 3], Vec<Name>), Fail> {
+    let removed = removes(shelf, FLOOR);
+    let again = removes(shelf, FLOOR);
+    let names = shelf.list(alloc)?;
+    let given = gives_once(alloc, shelf, SECOND, b"two");
+    Ok(([removed, again, given], names))
+}
+
+type Listed = (Vec<Name>, Vec<Name>);
+
+fn with_and_without(alloc: Global) -> Result<([bool; 2], [bool; 3], Listed), Fail> {
+    let mut shelf = with_floors(alloc)?;
+    let (with, all) = with_more(alloc, &mut shelf)?;
+    let (without, rest) = without_floor(alloc, &mut shelf)?;
+    Ok((with, without, (all, rest)))
 }
 
 #[test]
 fn a_shelf_in_memory_holds_floors_of_any_number(rt: HostRuntime) -> Result<(), Fail> {
-    let alloc = rt.alloc();
-    let mut shelf = with_floors(alloc)?;
-    assert!(rt; holds(&shelf, FLOOR, b"odd"));
-    put_more(alloc, &mut shelf)?;
-    assert!(rt; holds(&shelf, FLOOR, &[9; 28]));
-    assert!(rt; lists(alloc, &mut shelf, &[FIRST, SECOND, FLOOR, FAR_FLOOR])?);
-    assert!(rt; removes(&mut shelf, FLOOR) && removes(&mut shelf, FLOOR));
-    assert!(rt; lists(alloc, &mut shelf, &[FIRST, SECOND, FAR_FLOOR])?);
-    assert!(rt; gives_once(alloc, &mut shelf, SECOND, b"two")?);
+    let (with, without, (all, rest)) = with_and_without(rt.alloc())?;
+    assert!(rt; (with, without) == ([true; 2], [true; 3]));
+    assert!(rt; all.as_slice() == [FIRST, SECOND, FLOOR, FAR_FLOOR].as_slice());
+    assert!(rt; rest.as_slice() == [FIRST, SECOND, FAR_FLOOR].as_slice());
     Ok(())
 }
 

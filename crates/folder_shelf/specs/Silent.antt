@@ -20,7 +20,8 @@ pub record PlacesCounts : Type 0 where
   pub write_faults : ℕ
 
 abbrev pub silent_places : PlacesCounts → PlacesTold
-silent_places s = record { files = None; faults = s.faults; read_faults = s.read_faults; write_faults = s.write_faults }
+silent_places s =
+    record { files = None; faults = s.faults; read_faults = s.read_faults; write_faults = s.write_faults }
 
 abbrev pub silent_source : ℕ → SourceTold
 silent_source faults = record { left = None; faults = faults }

@@ -41,7 +41,8 @@ pub fn push_hex(text: &mut String, count: usize, number: u64) -> Result<(), Allo
 pub fn read_hex(text: &[u8]) -> Option<u64>
     requires { length text.now ≤ 16 }
     ensures small { IfSome result (λ n. n < 16 ^ length text.now) }
-    ensures found { (n : ℕ) → n < 16 ^ length text.now → (result ≡ Some n ↔ hex (length text.now) n ≡ text.now) }
+    ensures found { (n : ℕ) → n < 16 ^ length text.now
+        → (result ≡ Some n ↔ hex (length text.now) n ≡ text.now) }
 {
     let Some((last, before)) = text.split_last() else {
         return Some(0);

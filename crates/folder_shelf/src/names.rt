@@ -107,7 +107,8 @@ fn read_id(tail: &[u8]) -> Option<u64>
 
 fn read_recipe(tail: &[u8]) -> Option<u64>
     ensures small { IfSome result (λ n. n < 2 ^ 40) }
-    ensures found { (n : ℕ) → n < 2 ^ 40 → (result ≡ Some n ↔ recipe_tail (n / 2 ^ 32) (n % 2 ^ 32) ≡ tail.now) }
+    ensures found { (n : ℕ) → n < 2 ^ 40
+        → (result ≡ Some n ↔ recipe_tail (n / 2 ^ 32) (n % 2 ^ 32) ≡ tail.now) }
 {
     if tail.len() == 8 {
         return read_hex(tail);

@@ -22,7 +22,8 @@ impl<R> Model for FolderPlaces<R> {
 
     ghost Value = { PlacesCounts };
 
-    ghost view = { λ s. record { faults = s.faults; read_faults = s.read_faults; write_faults = s.write_faults } };
+    ghost view = { λ s.
+        record { faults = s.faults; read_faults = s.read_faults; write_faults = s.write_faults } };
 }
 
 impl<R: Files> FolderPlaces<R> {

@@ -110,7 +110,8 @@ pub fn count<T>(faults: &mut u64, answer: Result<T, Failed>) -> Result<T, Failed
 // One read. An error of the stream is no end of it.
 fn read_some<T: Read>(stream: &mut T, buf: &mut [u8]) -> Result<usize, Failed>
     ensures fits { IfOk result (λ n. n ≤ length buf.old) }
-    ensures given { IfOk result (λ n. Consumes (T.remaining stream.old) (T.remaining stream.new) (take n buf.new)) }
+    ensures given { IfOk result
+        (λ n. Consumes (T.remaining stream.old) (T.remaining stream.new) (take n buf.new)) }
     ensures end { IfOk result (λ n. n ≡ 0 → 0 < length buf.old → IsAtEnd (T.remaining stream.new)) }
     ensures err { OnErr result (Keeps (T.remaining stream.old) (T.remaining stream.new)) }
 {
@@ -123,7 +124,8 @@ fn read_some<T: Read>(stream: &mut T, buf: &mut [u8]) -> Result<usize, Failed>
 // One write, of at least a byte.
 fn write_some<T: Write>(stream: &mut T, piece: &[u8]) -> Result<usize, Failed>
     ensures some { IfOk result (λ n. (0 < n) × (n ≤ length piece.now)) }
-    ensures taken { IfOk result (λ n. Appends (T.contents stream.old) (T.contents stream.new) (take n piece.now)) }
+    ensures taken { IfOk result
+        (λ n. Appends (T.contents stream.old) (T.contents stream.new) (take n piece.now)) }
     ensures err { OnErr result (Keeps (T.contents stream.old) (T.contents stream.new)) }
 {
     match stream.write(piece) {

@@ -13,7 +13,7 @@ use Rattle.vault_types.specs.Lists.{has, with_number, IsAscending}
 use Rattle.vault_types.specs.Names.{same_fp}
 use Rattle.vault_types.proofs.FillLemmas.{same_fps, bytes_eq-same}
 use Rattle.vault_types.proofs.SetLemmas.{has-with_number, IsAscending-with_number}
-use Rattle.fp_index.specs.Lists.{lists, ids_in, row_has, without, Takes, TakesId, TakesRows, AllAscend}
+use Rattle.fp_index.specs.Lists.{lists, ids_in, row_has, without, HasRoomFor, TakesId, TakesRows, AllAscend}
 use Rattle.fp_index.proofs.Ids.{with_number-there, without-none, IsAscending-without, has-without}
 
 abbrev pub vec_at : List (Fp × Vec ℕ) → Fp → Option (Vec ℕ)
@@ -70,21 +70,21 @@ ids-same old new fp w h e f = ids-written old new fp w h (λ ns. ns) e f ∙ ste
 
 -- room
 
-pub takes-at : (entries : List (Fp × Vec ℕ)) (id : ℕ) (f : Fp) (v : Vec ℕ) → vec_at entries f ≡ Some v → TakesId entries id f → Takes id v
-takes-at entries id f v e h = subst (λ o. IsSomeAnd o (Takes id)) e h
+pub takes-at : (entries : List (Fp × Vec ℕ)) (id : ℕ) (f : Fp) (v : Vec ℕ) → vec_at entries f ≡ Some v → TakesId entries id f → HasRoomFor id v
+takes-at entries id f v e h = subst (λ o. IsSomeAnd o (HasRoomFor id)) e h
 
-pub takes-written : (old new : List (Fp × Vec ℕ)) (id : ℕ) (fp : Fp) (w : Vec ℕ) → IsUpdated old new fp (Some w) → Takes id w → (f : Fp) → TakesId old id f → TakesId new id f
-takes-written old new id fp w h t f i = subst (λ o. IsSomeAnd o (Takes id)) (sym (h f)) (step (same_fp fp f))
+pub takes-written : (old new : List (Fp × Vec ℕ)) (id : ℕ) (fp : Fp) (w : Vec ℕ) → IsUpdated old new fp (Some w) → HasRoomFor id w → (f : Fp) → TakesId old id f → TakesId new id f
+takes-written old new id fp w h t f i = subst (λ o. IsSomeAnd o (HasRoomFor id)) (sym (h f)) (step (same_fp fp f))
   where
-    step : (b : Bool) → IsSomeAnd (cond b (Some w) (vec_at old f)) (Takes id)
+    step : (b : Bool) → IsSomeAnd (cond b (Some w) (vec_at old f)) (HasRoomFor id)
     step true = t
     step false = i
 
 -- the room of v, or its place for the id, is in a vector with its elements and no less capacity
-pub takes-grown : (id : ℕ) (v w : Vec ℕ) → w.items ≡ v.items → vec_len w ≡ vec_len v → vec_capacity v ≤ vec_capacity w → Takes id v → Takes id w
+pub takes-grown : (id : ℕ) (v w : Vec ℕ) → w.items ≡ v.items → vec_len w ≡ vec_len v → vec_capacity v ≤ vec_capacity w → HasRoomFor id v → HasRoomFor id w
 takes-grown id v w e l c h = elim h [ inl there ↦ inl (ap (has id) e ∙ there) | inr room ↦ inr (omega arith) ]
 
-pub takes-there : (id : ℕ) (w : Vec ℕ) (ns : List ℕ) → w.items ≡ with_number id ns → Takes id w
+pub takes-there : (id : ℕ) (w : Vec ℕ) (ns : List ℕ) → w.items ≡ with_number id ns → HasRoomFor id w
 takes-there id w ns e =
     let self : nat_eq id id ≡ true = grind (arith, nat_tests) in
     inl (ap (has id) e ∙ has-with_number id id ns ∙ ap (λ b. b || has id ns) self)
@@ -108,10 +108,10 @@ without-absent entries fp id e f = step (same_fp fp f) refl
         nothing ∙ sym (ap (without id) nothing)
     step false t = refl
 
-pub takes-kept : (old new : List (Fp × Vec ℕ)) (id : ℕ) (fp : Fp) (v w : Vec ℕ) → vec_at old fp ≡ Some v → IsUpdated old new fp (Some w) → (Takes id v → Takes id w) → (f : Fp) → TakesId old id f → TakesId new id f
-takes-kept old new id fp v w e h t f i = subst (λ o. IsSomeAnd o (Takes id)) (sym (h f)) (step (same_fp fp f) refl)
+pub takes-kept : (old new : List (Fp × Vec ℕ)) (id : ℕ) (fp : Fp) (v w : Vec ℕ) → vec_at old fp ≡ Some v → IsUpdated old new fp (Some w) → (HasRoomFor id v → HasRoomFor id w) → (f : Fp) → TakesId old id f → TakesId new id f
+takes-kept old new id fp v w e h t f i = subst (λ o. IsSomeAnd o (HasRoomFor id)) (sym (h f)) (step (same_fp fp f) refl)
   where
-    step : (b : Bool) → same_fp fp f ≡ b → IsSomeAnd (cond b (Some w) (vec_at old f)) (Takes id)
+    step : (b : Bool) → same_fp fp f ≡ b → IsSomeAnd (cond b (Some w) (vec_at old f)) (HasRoomFor id)
     step true u = t (takes-at old id fp v e (subst (TakesId old id) (sym (same_fps fp f u)) i))
     step false u = i
 

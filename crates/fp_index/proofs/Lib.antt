@@ -1,3 +1,3 @@
 mod Ids
 mod Entries
-mod Tables
+pub mod Tables

@@ -9,11 +9,11 @@ use Rattle.vault_types.specs.declared.TableRow.{TableRow}
 use Rattle.std.specs.Global.{Vec}
 use Rattle.vault_types.specs.Lists.{has, set_of, with_number, greatest}
 use Rattle.vault_types.specs.Tables.{has_fp, newest}
-use Rattle.vault_types.proofs.SetLemmas.{has-set_of, has-with_number, IsAscending-set_of, IsAscending-with_number, ascending_unique}
-use Rattle.fp_index.specs.Index.{IsIndexOf, IsOnlyOne, ids_at, ids_of, found_in, without_id}
+use Rattle.vault_types.proofs.SetLemmas.{greatest-set_of, has-set_of, has-with_number, IsAscending-set_of, IsAscending-with_number, ascending_unique}
+use Rattle.fp_index.specs.Index.{IsIndexOf, IsOnlyOne, ids_for, ids_having, found_in, without_id}
 use Rattle.fp_index.specs.Lists.{lists, ids_in, row_has, without}
 use Rattle.fp_index.proofs.Entries.{AreDone}
-use Rattle.fp_index.proofs.Ids.{greatest-set_of, has-without, without-none, IsAscending-without}
+use Rattle.fp_index.proofs.Ids.{has-without, without-none, IsAscending-without}
 
 abbrev holders : List Table → Fp → List ℕ
 holders tables f = map (λ t. t.id) (filter (has_fp f) tables)
@@ -47,10 +47,10 @@ set_of-more ns n =
     (λ k. has-set_of k (ns ++ n ∷ []) ∙ list_any-append (nat_eq k) ns (n ∷ []) ∙ or_flip (has k ns) (nat_eq k n)
     ∙ sym (has-with_number k n (set_of ns) ∙ ap (λ b. nat_eq k n || b) (has-set_of k ns)))
 
-pub ids_of-more : (tables : List Table) (t : Table) (f : Fp) → ids_of (tables ++ t ∷ []) f ≡ cond (has_fp f t) (with_number t.id (ids_of tables f)) (ids_of tables f)
+pub ids_of-more : (tables : List Table) (t : Table) (f : Fp) → ids_having (tables ++ t ∷ []) f ≡ cond (has_fp f t) (with_number t.id (ids_having tables f)) (ids_having tables f)
 ids_of-more tables t f = ap set_of (holders-more tables t f) ∙ step (has_fp f t)
   where
-    step : (b : Bool) → set_of (holders tables f ++ cond b (t.id ∷ []) []) ≡ cond b (with_number t.id (ids_of tables f)) (ids_of tables f)
+    step : (b : Bool) → set_of (holders tables f ++ cond b (t.id ∷ []) []) ≡ cond b (with_number t.id (ids_having tables f)) (ids_having tables f)
     step true = set_of-more (holders tables f) t.id
     step false = ap set_of (append-nothing (holders tables f))
 
@@ -101,23 +101,23 @@ none_other table (t ∷ tables) f h e = step (has_fp f t) refl (none_other table
             let clash : true ≡ false = sym u ∙ one ∙ e in
             cc
 
-pub ids_of-without : (table : Table) (tables : List Table) (f : Fp) → IsOnlyOne table tables → ids_of (without_id table.id tables) f ≡ cond (has_fp f table) (without table.id (ids_of tables f)) (ids_of tables f)
+pub ids_of-without : (table : Table) (tables : List Table) (f : Fp) → IsOnlyOne table tables → ids_having (without_id table.id tables) f ≡ cond (has_fp f table) (without table.id (ids_having tables f)) (ids_having tables f)
 ids_of-without table tables f h =
     ap set_of (holders-without table.id tables f) ∙ set_of-without table.id (holders tables f) ∙ step (has_fp f table) refl
   where
-    step : (b : Bool) → has_fp f table ≡ b → without table.id (ids_of tables f) ≡ cond b (without table.id (ids_of tables f)) (ids_of tables f)
+    step : (b : Bool) → has_fp f table ≡ b → without table.id (ids_having tables f) ≡ cond b (without table.id (ids_having tables f)) (ids_having tables f)
     step true e = refl
-    step false e = without-none table.id (ids_of tables f) (IsAscending-set_of (holders tables f)) (has-set_of table.id (holders tables f) ∙ none_other table tables f h e)
+    step false e = without-none table.id (ids_having tables f) (IsAscending-set_of (holders tables f)) (has-set_of table.id (holders tables f) ∙ none_other table tables f h e)
 
 -- what the lists hold after a change
 
 after : (g : List ℕ → List ℕ) (old mid new : List (Fp × Vec ℕ)) (value : List (Fp × List ℕ)) (tables : List Table) (rows : List TableRow) (t : Table) (f : Fp)
     → lists old ≡ value → ((f : Fp) → ids_in mid f ≡ ids_in old f) → AreDone g mid new rows → rows ≡ t.rows → IsIndexOf value tables
-    → ids_at (lists new) f ≡ cond (has_fp f t) (g (ids_of tables f)) (ids_of tables f)
+    → ids_for (lists new) f ≡ cond (has_fp f t) (g (ids_having tables f)) (ids_having tables f)
 after g old mid new value tables rows t f v m n e h =
     n f
     ∙ ap (λ rs. cond (row_has f rs) (g (ids_in mid f)) (ids_in mid f)) e
-    ∙ ap (λ ns. cond (has_fp f t) (g ns) ns) (m f ∙ ap (λ es. ids_at es f) v ∙ h.ids f)
+    ∙ ap (λ ns. cond (has_fp f t) (g ns) ns) (m f ∙ ap (λ es. ids_for es f) v ∙ h.ids f)
 
 pub index-added : (old mid new : List (Fp × Vec ℕ)) (value : List (Fp × List ℕ)) (tables : List Table) (rows : List TableRow) (t : Table)
     → lists old ≡ value → ((f : Fp) → ids_in mid f ≡ ids_in old f) → AreDone (with_number t.id) mid new rows → rows ≡ t.rows → IsIndexOf value tables

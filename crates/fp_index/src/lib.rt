@@ -50,15 +50,18 @@ impl Index {
     /// The newest container with this fingerprint that was added and not dropped since.
     pub fn find(&self, fp: &Fp) -> Option<Id>
         ensures found { result ≡ found_in self.now fp.now }
-        ensures newest { (tables : List Container) → IsIndexOf self.now tables → result ≡ newest tables fp.now }
+        ensures newest { (tables : List Container) → IsIndexOf self.now tables
+            → result ≡ newest tables fp.now }
     {
         self.containers.get(fp)?.last().copied()
     }
 
     /// Adds a container. All room is made first: after `Memory` the index finds what it found before.
     pub fn add_container(&mut self, alloc: Global, table: &Table) -> Result<(), Memory>
-        ensures added { (tables : List Container) → IsIndexOf self.old tables → OnOk result (IsIndexOf self.new (tables ++ table.now ∷ [])) }
-        ensures unchanged { (tables : List Container) → IsIndexOf self.old tables → OnErr result (IsIndexOf self.new tables) }
+        ensures added { (tables : List Container) → IsIndexOf self.old tables
+            → OnOk result (IsIndexOf self.new (tables ++ table.now ∷ [])) }
+        ensures unchanged { (tables : List Container) → IsIndexOf self.old tables
+            → OnErr result (IsIndexOf self.new tables) }
     {
         make_room(alloc, &mut self.containers, table.id, table.rows.as_slice())?;
         add_rows(&mut self.containers, table.id, table.rows.as_slice());
@@ -68,7 +71,8 @@ impl Index {
     /// Takes a container out that was added and not dropped since. An older one that has a fingerprint of it is
     /// found again.
     pub fn drop_container(&mut self, table: &Table)
-        ensures { (tables : List Container) → IsIndexOf self.old tables → IsOnlyOne table.now tables → IsIndexOf self.new (without_id table.now.id tables) }
+        ensures { (tables : List Container) → IsIndexOf self.old tables → IsOnlyOne table.now tables
+            → IsIndexOf self.new (without_id table.now.id tables) }
     {
         take_rows(&mut self.containers, table.id, table.rows.as_slice());
     }

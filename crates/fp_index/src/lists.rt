@@ -3,7 +3,7 @@ ghost use Rattle.std.specs.Prelude.{◌≡◌, List, [], OnOk, IsTrue, if◌then
 ghost use Rattle.vault_types.specs.declared.Fp.{Fp as Key};
 ghost use Rattle.vault_types.specs.Lists.{with_number, IsAscending};
 ghost use Rattle.vault_types.specs.Names.{same_fp};
-ghost use Rattle.fp_index.specs.Lists.{ids_in, row_has, without, AllAscend, Takes, TakesId, TakesRows};
+ghost use Rattle.fp_index.specs.Lists.{ids_in, row_has, without, AllAscend, HasRoomFor, TakesId, TakesRows};
 
 use std::alloc::Global;
 use std::collections::HashMap;
@@ -49,7 +49,7 @@ pub fn make_room(
 /// Puts an id in its place in an ascending list, unless it is there.
 fn insert_id(ids: &mut Vec<Id>, id: Id)
     requires ascend { IsAscending ids.old.items }
-    requires room { Takes id ids.old }
+    requires room { HasRoomFor id ids.old }
     ensures { ids.new.items ≡ with_number id ids.old.items }
 {
     if let Err(at) = ids.binary_search(&id) {
@@ -71,7 +71,10 @@ fn remove_id(ids: &mut Vec<Id>, id: Id)
 fn add_id(containers: &mut HashMap<Fp, Vec<Id>>, id: Id, fp: &Fp)
     requires ascend { AllAscend containers.old.entries }
     requires room { TakesId containers.old.entries id fp.now }
-    ensures ids { (f : Key) → ids_in containers.new.entries f ≡ (if same_fp fp.now f then with_number id (ids_in containers.old.entries f) else ids_in containers.old.entries f) }
+    ensures ids { (f : Key)
+        → ids_in containers.new.entries f
+        ≡ (if same_fp fp.now f then with_number id (ids_in containers.old.entries f)
+        else ids_in containers.old.entries f) }
     ensures room { (f : Key) → TakesId containers.old.entries id f → TakesId containers.new.entries id f }
 {
     if let Some(ids) = containers.get_mut(fp) {
@@ -83,7 +86,10 @@ fn add_id(containers: &mut HashMap<Fp, Vec<Id>>, id: Id, fp: &Fp)
 pub fn add_rows(containers: &mut HashMap<Fp, Vec<Id>>, id: Id, rows: &[TableRow])
     requires ascend { AllAscend containers.old.entries }
     requires room { TakesRows containers.old.entries id rows.now }
-    ensures { (f : Key) → ids_in containers.new.entries f ≡ (if row_has f rows.now then with_number id (ids_in containers.old.entries f) else ids_in containers.old.entries f) }
+    ensures { (f : Key)
+        → ids_in containers.new.entries f
+        ≡ (if row_has f rows.now then with_number id (ids_in containers.old.entries f)
+        else ids_in containers.old.entries f) }
 {
     for row in rows {
         add_id(containers, id, &row.fp);
@@ -93,7 +99,10 @@ pub fn add_rows(containers: &mut HashMap<Fp, Vec<Id>>, id: Id, rows: &[TableRow]
 /// Takes a container out of the list at a fingerprint, and says whether that list is empty now.
 fn empties(containers: &mut HashMap<Fp, Vec<Id>>, id: Id, fp: &Fp) -> bool
     requires { AllAscend containers.old.entries }
-    ensures ids { (f : Key) → ids_in containers.new.entries f ≡ (if same_fp fp.now f then without id (ids_in containers.old.entries f) else ids_in containers.old.entries f) }
+    ensures ids { (f : Key)
+        → ids_in containers.new.entries f
+        ≡ (if same_fp fp.now f then without id (ids_in containers.old.entries f)
+        else ids_in containers.old.entries f) }
     ensures emptied { IsTrue result → ids_in containers.new.entries fp.now ≡ [] }
 {
     match containers.get_mut(fp) {
@@ -108,7 +117,10 @@ fn empties(containers: &mut HashMap<Fp, Vec<Id>>, id: Id, fp: &Fp) -> bool
 /// Takes a container out at a fingerprint. A list that is empty then goes.
 fn take_id(containers: &mut HashMap<Fp, Vec<Id>>, id: Id, fp: &Fp)
     requires { AllAscend containers.old.entries }
-    ensures { (f : Key) → ids_in containers.new.entries f ≡ (if same_fp fp.now f then without id (ids_in containers.old.entries f) else ids_in containers.old.entries f) }
+    ensures { (f : Key)
+        → ids_in containers.new.entries f
+        ≡ (if same_fp fp.now f then without id (ids_in containers.old.entries f)
+        else ids_in containers.old.entries f) }
 {
     if empties(containers, id, fp) {
         containers.remove(fp);
@@ -118,7 +130,10 @@ fn take_id(containers: &mut HashMap<Fp, Vec<Id>>, id: Id, fp: &Fp)
 /// Takes a container out at the fingerprint of each row.
 pub fn take_rows(containers: &mut HashMap<Fp, Vec<Id>>, id: Id, rows: &[TableRow])
     requires { AllAscend containers.old.entries }
-    ensures { (f : Key) → ids_in containers.new.entries f ≡ (if row_has f rows.now then without id (ids_in containers.old.entries f) else ids_in containers.old.entries f) }
+    ensures { (f : Key)
+        → ids_in containers.new.entries f
+        ≡ (if row_has f rows.now then without id (ids_in containers.old.entries f)
+        else ids_in containers.old.entries f) }
 {
     for row in rows {
         take_id(containers, id, &row.fp);

@@ -13,7 +13,7 @@ use Rattle.vault_types.specs.Lists.{has, set_of, sorted_by, fitting, distinct_by
 use Rattle.vault_types.specs.Sparse.{referenced, is_sparse, is_emptier, sparse_ids, sparse}
 use Rattle.vault_types.proofs.SetLemmas.{has-set_of, IsAscending-set_of, ascending_unique}
 use Rattle.har_monitor.specs.declared.used.Used.{Used}
-use Rattle.har_monitor.specs.Monitor.{Counted, HasSeen, NamesEach, ids_of, payload_of}
+use Rattle.har_monitor.specs.Monitor.{Counted, HasSeen, NamesEach, ids_of, listed_length}
 use Rattle.har_monitor.specs.Used.{used_of, is_little_used, little_used, goes_first}
 use Rattle.vault_types.proofs.OrderLemmas.{IsRank, IsRanked, IsOnce, has-sorted_by, all-sorted_by, ranked-sorted_by, ranked_unique, once-sorted_by, once-set_of}
 use Rattle.har_monitor.proofs.Parts.{fewer-way, fewer-apart, fewer-chain, weak_order, not_empty}
@@ -60,7 +60,7 @@ record IsMeant (seen : List Row) (payload : ℕ → ℕ) (u : Used) : Type 0 whe
 -- each pair has the payload that the list gives
 
 abbrev IsGiven : List (ℕ × ℕ) → ℕ × ℕ → Type 0
-IsGiven ps p = payload_of ps p.0 ≡ p.1
+IsGiven ps p = listed_length ps p.0 ≡ p.1
 
 given-more : (q : ℕ × ℕ) (qs ps : List (ℕ × ℕ)) → AllByRecursion (λ k. nat_eq q.0 k ≡ false) (map (λ p. p.0) ps) → AllByRecursion (IsGiven qs) ps → AllByRecursion (IsGiven (q ∷ qs)) ps
 given-more q qs [] h i = tt
@@ -76,7 +76,7 @@ all_given (p ∷ ps) h =
       given-more p ps ps (IsDistinct-head nat_eq p.0 (map (λ p. p.0) ps) h) (all_given ps (IsDistinct-tail nat_eq p.0 (map (λ p. p.0) ps) h)),
     )
 
-all_meant : (m : Counted) (seen : List Row) (payloads ps : List (ℕ × ℕ)) → HasSeen m seen → AllByRecursion (IsGiven payloads) ps → AllByRecursion (IsMeant seen (payload_of payloads)) (map (used_of m.sums) ps)
+all_meant : (m : Counted) (seen : List Row) (payloads ps : List (ℕ × ℕ)) → HasSeen m seen → AllByRecursion (IsGiven payloads) ps → AllByRecursion (IsMeant seen (listed_length payloads)) (map (used_of m.sums) ps)
 all_meant m seen payloads [] h i = tt
 all_meant m seen payloads (p ∷ ps) h i = (record { counted = found-sum m seen p.0 h; stored = sym i.0 }, all_meant m seen payloads ps h i.1)
 
@@ -233,9 +233,9 @@ filled seen payload threshold (n ∷ ns) = step (is_sparse seen payload threshol
 
 pub sorted_sparse : (m : Counted) (seen : List Row) (payloads : List (ℕ × ℕ)) (threshold : ℕ) (us : List Used) → HasSeen m seen → NamesEach m.ids payloads
     → IsPermutation (little_used m.sums payloads threshold) us → IsSortedBy goes_first us
-    → map (λ u. u.id) us ≡ sparse_ids seen (payload_of payloads) threshold
+    → map (λ u. u.id) us ≡ sparse_ids seen (listed_length payloads) threshold
 sorted_sparse m seen payloads threshold us h names same sorted =
-    let payload : ℕ → ℕ = payload_of payloads in
+    let payload : ℕ → ℕ = listed_length payloads in
     let keys : List ℕ = map (λ p. p.0) payloads in
     let meant : AllByRecursion (IsMeant seen payload) (map (used_of m.sums) payloads) = all_meant m seen payloads payloads h (all_given payloads names.once) in
     let ids : map (λ u. u.id) (little_used m.sums payloads threshold) ≡ filter (is_sparse seen payload threshold) keys =
@@ -300,9 +300,9 @@ sorted_set ns ms o p s =
 pub finished : (m : Counted) (seen : List Row) (payloads : List (ℕ × ℕ)) (threshold limit room : ℕ) (us : List Used) (picked ms : List ℕ) → HasSeen m seen → NamesEach m.ids payloads
     → IsPermutation (little_used m.sums payloads threshold) us → IsSortedBy goes_first us → room ≡ limit * m.total
     → picked ≡ map (λ u. u.id) (take (fitting (λ u. u.referenced * 100) room us) us) → IsPermutation picked ms → IsSorted nat_cmp ms
-    → ms ≡ sparse seen (payload_of payloads) threshold limit
+    → ms ≡ sparse seen (listed_length payloads) threshold limit
 finished m seen payloads threshold limit room us picked ms h names same sorted r e p s =
-    let payload : ℕ → ℕ = payload_of payloads in
+    let payload : ℕ → ℕ = listed_length payloads in
     let all : List ℕ = sparse_ids seen payload threshold in
     let ids : map (λ u. u.id) us ≡ all = sorted_sparse m seen payloads threshold us h names same sorted in
     let meant : AllByRecursion (IsMeant seen payload) us =

@@ -8,8 +8,8 @@ use Rattle.vault_types.specs.Lists.{has, distinct_by}
 use Rattle.vault_types.specs.Names.{same_fp}
 use Rattle.vault_types.specs.Sparse.{referenced}
 
--- what was counted: how many rows and bytes, the containers in the order of first sight, which fingerprint each
--- referred to, and for each container the bytes of these
+-- what was counted: how many rows and bytes, the containers in the order of first sight, which
+-- fingerprint each referred to, and for each container the bytes of these
 pub record Counted : Type 0 where
   pub rows : ℕ
   pub total : ℕ
@@ -31,11 +31,12 @@ pub record HasSeen (m : Counted) (seen : List Row) : Type 0 where
   pub total : m.total ≡ sum_by (λ r. r.len) seen
   pub ids : m.ids ≡ distinct_by nat_eq (ids_of seen)
   pub pairs : (f : Fp) (c : ℕ) → list_any (λ p. same_fp f p.0 && nat_eq c p.1) m.pairs ≡ refers seen f c
-  pub sums : (c : ℕ) → lookup (nat_eq c) m.sums ≡ (if has c (ids_of seen) then Some (referenced seen c) else None)
+  pub sums : (c : ℕ)
+      → lookup (nat_eq c) m.sums ≡ (if has c (ids_of seen) then Some (referenced seen c) else None)
 
 -- the number that a list of pairs gives for a container
-abbrev pub payload_of : List (ℕ × ℕ) → ℕ → ℕ
-payload_of payloads c = unwrap_or (lookup (nat_eq c) payloads) 0
+abbrev pub listed_length : List (ℕ × ℕ) → ℕ → ℕ
+listed_length payloads c = unwrap_or (lookup (nat_eq c) payloads) 0
 
 -- the list names each of these containers, and no other, once
 pub record NamesEach (ids : List ℕ) (payloads : List (ℕ × ℕ)) : Type 0 where

@@ -5,7 +5,8 @@ use Rattle.har_monitor.specs.declared.used.Used.{Used}
 
 -- the sums with some bytes more of a container
 abbrev pub IsAdded : List (ℕ × ℕ) → List (ℕ × ℕ) → ℕ → ℕ → Type 0
-IsAdded old new id sum = (c : ℕ) → lookup (nat_eq c) new ≡ (if nat_eq id c then Some sum else lookup (nat_eq c) old)
+IsAdded old new id sum =
+    (c : ℕ) → lookup (nat_eq c) new ≡ (if nat_eq id c then Some sum else lookup (nat_eq c) old)
 
 -- a container with its counts
 abbrev pub used_of : List (ℕ × ℕ) → ℕ × ℕ → Used
@@ -19,7 +20,8 @@ is_little_used threshold u = nat_lt (u.referenced * 100) (threshold * u.payload)
 abbrev pub little_used : List (ℕ × ℕ) → List (ℕ × ℕ) → ℕ → List Used
 little_used sums payloads threshold = filter (is_little_used threshold) (map (used_of sums) payloads)
 
--- the one of which a smaller part is used goes first, and of two that are used alike the one with the lower id
+-- the one of which a smaller part is used goes first, and of two that are used alike the one with
+-- the lower id
 abbrev pub goes_first : Used → Used → Bool
 goes_first a b =
     nat_lt (a.referenced * max 1 b.payload) (b.referenced * max 1 a.payload)

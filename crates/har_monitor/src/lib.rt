@@ -5,7 +5,7 @@
 ghost use Rattle.std.specs.Prelude.{◌≡◌, ◌<◌, ◌≤◌, ◌^◌, ◌+◌, ◌++◌, ◌∷◌, [], List, ℕ, IfOk, OnOk};
 ghost use Rattle.vault_types.specs.declared.Row.{Row as Reference};
 ghost use Rattle.vault_types.specs.Sparse.{sparse};
-ghost use Rattle.har_monitor.specs.Monitor.{HasSeen, NamesEach, payload_of};
+ghost use Rattle.har_monitor.specs.Monitor.{HasSeen, NamesEach, listed_length};
 
 mod used;
 
@@ -31,7 +31,14 @@ impl Model for Monitor {
 
     ghost Value = { Counted };
 
-    ghost view = { λ m. record { rows = m.rows; total = m.total; ids = m.ids.items; pairs = m.pairs.keys; sums = m.sums.entries } };
+    ghost view = { λ m.
+        record {
+          rows = m.rows;
+          total = m.total;
+          ids = m.ids.items;
+          pairs = m.pairs.keys;
+          sums = m.sums.entries;
+        } };
 }
 
 impl Monitor {
@@ -54,7 +61,8 @@ impl Monitor {
         requires few { self.old.rows < 2 ^ 32 }
         requires low { 1 ≤ row.now.len }
         requires high { row.now.len ≤ 65536 }
-        ensures { (seen : List Reference) → HasSeen self.old seen → OnOk result (HasSeen self.new (seen ++ row.now ∷ [])) }
+        ensures { (seen : List Reference) → HasSeen self.old seen
+            → OnOk result (HasSeen self.new (seen ++ row.now ∷ [])) }
     {
         if self.pairs.insert((row.fp, row.id))? {
             add(&mut self.sums, &mut self.ids, row.id, row.len)?;
@@ -83,7 +91,8 @@ impl Monitor {
         limit: u32,
     ) -> Result<Vec<Id>, Memory>
         requires named { NamesEach self.ids payloads.now }
-        ensures { (seen : List Reference) → HasSeen self seen → IfOk result (λ list. list.items ≡ sparse seen (payload_of payloads.now) threshold limit) }
+        ensures { (seen : List Reference) → HasSeen self seen
+            → IfOk result (λ list. list.items ≡ sparse seen (listed_length payloads.now) threshold limit) }
     {
         let mut used = little_used(alloc, &self.sums, payloads, threshold)?;
         sort_by_use(&mut used);

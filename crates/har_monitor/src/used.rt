@@ -21,8 +21,14 @@ pub struct Used {
 
 /// Adds to the bytes that are referred to in a container. One that is new goes to the end of `ids`.
 pub fn add(sums: &mut HashMap<Id, u64>, ids: &mut Vec<Id>, id: Id, len: u32) -> Result<(), Memory>
-    ensures sums { unwrap_or (lookup (nat_eq id) sums.old.entries) 0 + len < 2 ^ 64 → OnOk result (IsAdded sums.old.entries sums.new.entries id (unwrap_or (lookup (nat_eq id) sums.old.entries) 0 + len)) }
-    ensures ids { OnOk result (ids.new.items ≡ (if is_some (lookup (nat_eq id) sums.old.entries) then ids.old.items else ids.old.items ++ id ∷ [])) }
+    ensures sums { unwrap_or (lookup (nat_eq id) sums.old.entries) 0 + len < 2 ^ 64
+        → OnOk result
+        (IsAdded sums.old.entries sums.new.entries id
+        (unwrap_or (lookup (nat_eq id) sums.old.entries) 0 + len)) }
+    ensures ids { OnOk result
+        (ids.new.items
+        ≡ (if is_some (lookup (nat_eq id) sums.old.entries) then ids.old.items
+        else ids.old.items ++ id ∷ [])) }
 {
     match sums.get(&id).copied() {
         Some(sum) => {
@@ -93,7 +99,9 @@ pub fn sort_by_use(used: &mut Vec<Used>)
 
 /// The ids of the longest prefix whose hundredfold bytes are at most `room`.
 pub fn first_ids(alloc: Global, used: &[Used], room: u128) -> Result<Vec<Id>, Memory>
-    ensures { IfOk result (λ ids. ids.items ≡ map (λ u. u.id) (take (fitting (λ u. u.referenced * 100) room used.now) used.now)) }
+    ensures { IfOk result
+        (λ ids.
+        ids.items ≡ map (λ u. u.id) (take (fitting (λ u. u.referenced * 100) room used.now) used.now)) }
 {
     let mut ids = Vec::new(alloc);
     let mut left = room;

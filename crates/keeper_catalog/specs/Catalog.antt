@@ -14,8 +14,8 @@ use Rattle.set_markers.specs.SetMarkers.{Marked, AreMarkersOfSets}
 use Rattle.keeper_catalog.specs.declared.SetInfo.{SetInfo}
 use Rattle.keeper_catalog.specs.declared.Catalog.{Catalog}
 
--- the sets, the tables by id, the markers, the strays; for how many names the list of strays has room, and for how many
--- ids that of the containers that a deletion frees
+-- the sets, the tables by id, the markers, the strays; for how many names the list of strays has
+-- room, and for how many ids that of the containers that a deletion frees
 pub record Memo : Type 0 where
   pub sets : List SetInfo
   pub tables : List (ℕ × Table)
@@ -25,13 +25,28 @@ pub record Memo : Type 0 where
   pub spare : ℕ
 
 abbrev pub memo_of : Catalog → Memo
-memo_of c = record { sets = c.sets.items; tables = c.tables.entries; markers = c.markers; strays = c.strays.items; room = vec_capacity c.strays; spare = vec_capacity c.freed }
+memo_of c =
+    record {
+      sets = c.sets.items;
+      tables = c.tables.entries;
+      markers = c.markers;
+      strays = c.strays.items;
+      room = vec_capacity c.strays;
+      spare = vec_capacity c.freed;
+    }
 
 -- what of a set is in memory
 abbrev pub set_info : Dataset → SetInfo
-set_info d = record { floor = d.floor; latest = latest_in d; next = next_in d; sparse = option_map_or (λ k. k.sparse) (latest_version d) [] }
+set_info d =
+    record {
+      floor = d.floor;
+      latest = latest_in d;
+      next = next_in d;
+      sparse = option_map_or (λ k. k.sparse) (latest_version d) [];
+    }
 
--- the containers whose tables are in memory: those that are named, those that are pinned, and those of the open job
+-- the containers whose tables are in memory: those that are named, those that are pinned, and those
+-- of the open job
 abbrev pub listed : Core → List Container
 listed K = K.state.containers ++ (pinned_containers K.pins ++ put_by K.job)
 
@@ -51,7 +66,8 @@ Names (Some k) id = Contains (map (λ r. r.id) k.rows) id
 -- the marks are those of the kept versions
 pub record AreMarks (marks : List Mark) (S : State) : Type 0 where
   pub sound : (m : Mark) → Contains marks m → Names (version_of S m.set m.version) m.id
-  pub complete : (s v id : ℕ) → Names (version_of S s v) id → Contains marks (record { id = id; set = s; version = v })
+  pub complete : (s v id : ℕ) → Names (version_of S s v) id
+      → Contains marks (record { id = id; set = s; version = v })
 
 -- the markers are those of the state
 abbrev pub AreMarkersOf : Marked → State → Type 0
@@ -68,8 +84,8 @@ pub record IsMemoOf (m : Memo) (K : Core) : Type 0 where
 abbrev pub versions_in : List SetInfo → ℕ
 versions_in sets = sum_by (λ s. s.latest + 1 - s.floor) sets
 
--- a deletion and a release find room for each name that may become a stray: two for each container, one for each
--- recipe; and for each container that they free
+-- a deletion and a release find room for each name that may become a stray: two for each container,
+-- one for each recipe; and for each container that they free
 pub record HasRoom (m : Memo) : Type 0 where
   pub names : length m.strays + (2 * length m.tables + versions_in m.sets) ≤ m.room
   pub ids : length m.markers.ids ≤ m.spare

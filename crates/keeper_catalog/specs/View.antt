@@ -15,8 +15,8 @@ use Rattle.state_laws.specs.Parts.{HeldIfTold}
 use Rattle.keeper_catalog.specs.declared.JobInfo.{JobInfo}
 use Rattle.keeper_catalog.specs.Catalog.{Memo, IsMemoOf}
 
--- what the shelf tells; the memory; the index, also while it is lent to a job; the pins; the open job; and whether a
--- mending is due
+-- what the shelf tells; the memory; the index, also while it is lent to a job; the pins; the open
+-- job; and whether a mending is due
 pub record View : Type 0 where
   pub told : ShelfTold
   pub memo : Memo
@@ -30,7 +30,9 @@ job_info S j = record { set = j.set; first = next_of S; next = next_of S + lengt
 
 -- pins that list one id list one container
 abbrev pub AreAlike : List Pin → Type 0
-AreAlike pins = (c d : Container) → Contains (pinned_containers pins) c → Contains (pinned_containers pins) d → c.table.id ≡ d.table.id → c ≡ d
+AreAlike pins =
+    (c d : Container) → Contains (pinned_containers pins) c → Contains (pinned_containers pins) d
+    → c.table.id ≡ d.table.id → c ≡ d
 
 -- the keeper keeps the core: the shelf holds it, where that is told, and the memory is that of it
 pub record Keeps (v : View) (K : Core) : Type 0 where
@@ -49,4 +51,5 @@ HasCore v = (K : Core) × Keeps v K
 
 -- the core of a shelf that was just opened
 abbrev pub opened_core : State → List Name → Core
-opened_core S strays = record { state = S; other = None; pins = []; strays = strays; job = None; pending = pending.Opened }
+opened_core S strays =
+    record { state = S; other = None; pins = []; strays = strays; job = None; pending = pending.Opened }

@@ -134,7 +134,7 @@ module _ (v : View) (K : Core) (keeps : Keeps v K) (told : ShelfTold) (waits : P
 
 -- a put
 
-due_cases : (f : Fault) (s : ℕ) (waits : Pending) → (due_after f s waits ≡ waits) ⊎ (due_after f s waits ≡ FailedFor s)
+pub due_cases : (f : Fault) (s : ℕ) (waits : Pending) → (due_after f s waits ≡ waits) ⊎ (due_after f s waits ≡ FailedFor s)
 due_cases (fault.StoreFault n) s waits = inr refl
 due_cases fault.Usage s waits = inl refl
 due_cases (fault.NotKept a b c d) s waits = inl refl

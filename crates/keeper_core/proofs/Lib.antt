@@ -1,9 +1,14 @@
 pub mod Keeping
 pub mod Removing
+pub mod Mendings
+pub mod Deletions
+pub mod Commits
 pub mod Openings
 pub mod Listing
 pub mod Pinnings
 pub mod Naming
 pub mod Replacings
+pub mod Replaced
 pub mod Refusing
 pub mod Following
+pub mod BetweenLines

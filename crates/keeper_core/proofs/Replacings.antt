@@ -1,6 +1,6 @@
 -- What a keeper keeps over a recipe that is put again.
 use Rattle.std.proofs.Common.{◌≡◌, ◌⊎◌, inl, inr, ⊎_elim, ℕ, zero, suc, ◌<◌, ◌≤◌, ◌-◌, ◌&&◌, ◌==◌, true, false, cond, length, List, [], ◌∷◌, Option, Some, None, refl, sym, ◌∙◌, ap, subst, arith}
-use Rattle.std.specs.Prelude.{◌≢◌, Result, Ok, Err, OnErr, IsSome, IfSome, Contains, nat_le, nat_lt, slice_get, if◌then◌else◌}
+use Rattle.std.specs.Prelude.{◌≢◌, IsSome, nat_le, nat_lt, slice_get, if◌then◌else◌}
 use Rattle.std.proofs.lemmas.Bool.Decides.{nat_tests}
 use Rattle.vault_types.specs.declared.Fault.{Fault}
 use Rattle.vault_types.specs.declared.Fault.TheVariants as fault
@@ -16,15 +16,14 @@ use Rattle.vault_types.specs.declared.Why.TheVariants as why
 use Rattle.vault_types.specs.Names.{fp, IsFp}
 use Rattle.vault_types.specs.State.{State, KeptVersion, dataset, floor_of, latest_of, version_of, is_kept, recipe_of, length_of, IsValid}
 use Rattle.vault_types.specs.Blobs.{IsRecipe, SpellsRecipe, recipe_bytes, recipe_bytes_2}
-use Rattle.vault_types.specs.Shelf.{Blobs, recipe_name, floor_name, blob_at, Has}
-use Rattle.vault_types.specs.Events.{Core, Change, IsCore, IsNear, IsChange, Held, pinned_containers, after_mend, after_refused}
+use Rattle.vault_types.specs.Shelf.{Blobs, recipe_name, blob_at, Has}
+use Rattle.vault_types.specs.Events.{Core, Change, IsCore, IsNear, Held, after_refused}
 use Rattle.vault_traits.specs.Told.{ShelfTold}
 use Rattle.vault_traits.specs.Shelf.{blobs_with}
 use Rattle.vault_traits.proofs.Maps.{get_is, other_blob}
 use Rattle.vault_types.specs.BlobDamage.{IsRecipeDamage}
 use Rattle.state_laws.specs.Parts.{HeldIfTold, without_other}
 use Rattle.state_laws.proofs.Changing.{told_more}
-use Rattle.state_laws.proofs.Standing.{needs_floor}
 use Rattle.state_laws.proofs.Growing.{floor_pos}
 use Rattle.keeper_parts.proofs.Telling.{tells_one}
 use Rattle.keeper_catalog.specs.View.{View, Keeps}
@@ -32,13 +31,10 @@ use Rattle.commit_laws.specs.Laws.{SaysVersion}
 use Rattle.commit_laws.proofs.Loading.{held_recipe}
 use Rattle.commit_laws.proofs.Listing.{some_same, none_some}
 use Rattle.commit_laws.proofs.Unique.{kept_rules, kept_number, with_whole, without_whole, plain_of}
-use Rattle.keeper_jobs.specs.Jobs.{Sees}
 use Rattle.keeper_jobs.proofs.Seeing.{not_failed, failed_same}
-use Rattle.container_fill.proofs.SumLemmas.{fp-is_fp}
+use Rattle.vault_types.proofs.SumLemmas.{fp-is_fp}
 use Rattle.recipe_replacement.specs.Replacing.{IsRecipeOf, IsRecipeOfIfTold, waits_after}
-use Rattle.keeper_core.specs.Replacing.{IsRefused}
 use Rattle.keeper_core.proofs.Openings.{says_version}
-use Rattle.keeper_core.proofs.Keeping.{mended}
 
 -- a kept version is there
 
@@ -63,27 +59,6 @@ version_there S s v valid kept =
 
     not_below : (v f : ℕ) → f ≤ v → nat_lt v f ≡ false
     not_below v f h = grind (arith, nat_tests)
-
--- a shelf that tells nothing goes on so: otherwise it would hold each core that has the sets, whatever its strays
-
-silent_stays : (v : View) (K : Core) → Keeps v K → (b : Option Blobs) → ((J : Core) → Sees v.memo.sets v.pending J → HeldIfTold b J) → IsSome b → ⊥
-silent_stays v K keeps None holds some = let clash : false ≡ true = some in cc
-silent_stays v K keeps (Some m) holds some =
-    let J : Core = record { state = K.state; other = K.other; pins = K.pins; strays = floor_name 0 ∷ []; job = K.job; pending = K.pending } in
-    let core : IsCore J = record { state = keeps.core.state; job = keeps.core.job; tables = keeps.core.tables; payloads = keeps.core.payloads; job_set = keeps.core.job_set; pins = keeps.core.pins; numbers = keeps.core.numbers; alone = keeps.core.alone; failed = keeps.core.failed; other = keeps.core.other } in
-    let held = holds J (record { core = core; sets_are = keeps.memo.sets; pending_is = keeps.pending }) in
-    held.apart (floor_name 0) first (needs_floor K.state (pinned_containers K.pins) 0 (omega (arith, keeps.core.state.sets)))
-  where
-    first : Contains (floor_name 0 ∷ []) (floor_name 0)
-    first = (zero, omega arith, refl)
-
--- so where it tells now, it told before
-pub told_before : (v : View) (K : Core) → Keeps v K → (b : Option Blobs) → ((J : Core) → Sees v.memo.sets v.pending J → HeldIfTold v.told.blobs J → HeldIfTold b J) → IsSome b → IsSome v.told.blobs
-told_before v K keeps b holds some = by_told v.told.blobs refl
-  where
-    by_told : (t : Option Blobs) → v.told.blobs ≡ t → IsSome t
-    by_told (Some m) is = refl
-    by_told None is = absurd (silent_stays v K keeps b (λ J sees. holds J sees (subst (λ (t : Option Blobs). HeldIfTold t J) (sym is) tt)) some)
 
 -- the recipe with the version's sum
 
@@ -142,35 +117,6 @@ own_or_second s v k q mid new says set number may = ⊎_elim
 -- what is kept
 
 module _ (v : View) (K : Core) (keeps : Keeps v K) (told : ShelfTold) (waits : Pending) where
-  -- where the mending failed
-  pub unmended : waits ≡ v.pending → HeldIfTold told.blobs K → IsRefused (record { told = told; memo = v.memo; index = v.index; pins = v.pins; job = v.job; pending = waits }) K
-  unmended over held = (
-    K.other,
-    record {
-      core = record {
-        state = keeps.core.state;
-        job = keeps.core.job;
-        tables = keeps.core.tables;
-        payloads = keeps.core.payloads;
-        job_set = keeps.core.job_set;
-        pins = keeps.core.pins;
-        numbers = keeps.core.numbers;
-        alone = keeps.core.alone;
-        failed = λ t is. keeps.core.failed t (sym keeps.pending ∙ sym over ∙ is);
-        other = subst (λ (p : Pending). IfSome K.other (λ h. (s : ℕ) × (p ≡ FailedFor s) × IsChange K.state s h)) (sym keeps.pending ∙ sym over) keeps.core.other;
-      };
-      held = told_more (λ m. Held m K) (λ m. Held m (after_refused K.other K.job K.strays waits K)) told.blobs (λ m h. record { near = h.near; containers = h.containers; others = h.others; apart = h.apart }) held;
-      memo = record { sets = keeps.memo.sets; tables = keeps.memo.tables; markers = keeps.memo.markers; strays = keeps.memo.strays };
-      index = keeps.index;
-      pins = keeps.pins;
-      alike = keeps.alike;
-      pinned = keeps.pinned;
-      job = keeps.job;
-      pending = refl;
-    },
-    inr refl,
-  )
-
   -- where something behind it was refused
   pub refused_keeps : (s : ℕ) → s < 256 → (waits ≡ Not) ⊎ (waits ≡ FailedFor s) → HeldIfTold told.blobs (without_other K) → Keeps (record { told = told; memo = v.memo; index = v.index; pins = v.pins; job = v.job; pending = waits }) (after_refused None K.job K.strays waits K)
   refused_keeps s below why held = record {
@@ -198,9 +144,6 @@ module _ (v : View) (K : Core) (keeps : Keeps v K) (told : ShelfTold) (waits : P
     job = keeps.job;
     pending = refl;
   }
-
-  pub refused : (s : ℕ) → s < 256 → (waits ≡ Not) ⊎ (waits ≡ FailedFor s) → HeldIfTold told.blobs (without_other K) → IsRefused (record { told = told; memo = v.memo; index = v.index; pins = v.pins; job = v.job; pending = waits }) K
-  refused s below why held = (None, refused_keeps s below why held, inl refl)
 
 pub near_wider : (A : State) (o : Option Change) (c : Blobs) → IsNear A None c → IsNear A o c
 near_wider A o c (inl stands) = inl stands
@@ -284,16 +227,12 @@ pub whole_rules : (r q : Recipe) (w : Fp) → IsRecipe r → IsFp w → q ≡ re
 whole_rules r q w rules h is = subst IsRecipe (sym is) (record { version = rules.version; total = rules.total; rules = rules.rules; whole = sum_rules r.rows w h; no_bytes = λ none. ap (λ (f : Fp). f.0) (sum_none r.rows w none) })
 
 module _ (v : View) (K : Core) (keeps : Keeps v K) (s n : ℕ) (below : s < 256) (kept : is_kept K.state s n ≡ true) (w : Fp) (whole : IsSome v.told.blobs → (k : KeptVersion) → version_of K.state s n ≡ Some k → w ≡ k.sum)
-    (mid : ShelfTold) (waits : Pending) (over : waits ≡ Not) (holds : (J : Core) → Sees v.memo.sets v.pending J → HeldIfTold v.told.blobs J → HeldIfTold mid.blobs J) (held : HeldIfTold mid.blobs (without_other K))
-    (r q : Recipe) (found : (bytes : List ℕ) × Has mid.blobs (recipe_name s n) (Some bytes) × SpellsRecipe s n bytes r) (is : q ≡ record r { whole = Some (if length r.rows == 0 then fp [] else w) }) (read : Option Blobs) (same : read ≡ mid.blobs) where
+    (r q : Recipe) (found : (bytes : List ℕ) × Has v.told.blobs (recipe_name s n) (Some bytes) × SpellsRecipe s n bytes r) (is : q ≡ record r { whole = Some (if length r.rows == 0 then fp [] else w) }) (read : Option Blobs) (same : read ≡ v.told.blobs) where
   pub says : (k : KeptVersion) → version_of K.state s n ≡ Some k → IsSome read → q ≡ recipe_of s n k
   says k at some =
-      let tells : IsSome mid.blobs = subst (λ (t : Option Blobs). IsSome t) same some in
-      let keeps2 = mended v K keeps mid waits over held in
+      let tells : IsSome v.told.blobs = subst (λ (t : Option Blobs). IsSome t) same some in
       let inside : s < length K.state.datasets = omega (arith, below, keeps.core.state.sets) in
-      recipe_is K.state keeps.core.state s n k inside at r q found.0 w found.2
-      (says_version (record { told = mid; memo = v.memo; index = v.index; pins = v.pins; job = v.job; pending = waits }) (after_mend K.strays K) k s n r found.0 keeps2 below at tells found.1 found.2)
-      (whole (told_before v K keeps mid.blobs holds tells) k at) is
+      recipe_is K.state keeps.core.state s n k inside at r q found.0 w found.2 (says_version v K k s n r found.0 keeps below at tells found.1 found.2) (whole tells k at) is
 
   pub of_state : IsRecipeOfIfTold read K.state q
   of_state some =
@@ -305,7 +244,3 @@ module _ (v : View) (K : Core) (keeps : Keeps v K) (s n : ℕ) (below : s < 256)
 
   pub number_is : q.version ≡ n
   number_is = ap (λ (p : Recipe). p.version) is ∙ found.2.number
-
-pub err_any : {T E A : Type 0} (r : Result T E) → A → OnErr r A
-err_any (Ok x) a = tt
-err_any (Err e) a = a

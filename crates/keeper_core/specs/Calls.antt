@@ -54,20 +54,24 @@ due_after other s waits = waits
 abbrev pub IsDue : Fault → Option JobInfo → Pending → Pending → Type 0
 IsDue f job before now = IfSome job (λ j. now ≡ due_after f j.set before)
 
--- after a refusal by the fault the state stays, and the job is as given; where the shelf failed, a change may be half
--- done. A crash at any moment of the call leaves the state, with what was half done before or is half done now; one
--- behind it only what is half done now
+-- after a refusal by the fault the state stays, and the job is as given; where the shelf failed, a
+-- change may be half done. A crash at any moment of the call leaves the state, with what was half
+-- done before or is half done now; one behind it only what is half done now
 pub record IsHalf (u v : View) (h : Change) (job : Option Job) (f : Fault) (K : Core) : Type 0 where
   pub other : Option Change
   pub keeps : Keeps v (after_refused other job v.memo.strays v.pending K)
   pub half : (other ≡ None) ⊎ ((other ≡ Some h) × IsShelfFault f)
-  pub any_moment : LeavesNowIfTold u.told.history (IsNear K.state K.other) → LeavesOnlyIfTold u.told.history v.told.history (λ c. IsNear K.state K.other c ⊎ IsNear K.state other c)
-  pub behind : LeavesNowIfTold u.told.history (IsNear K.state K.other) → LeavesNowIfTold v.told.history (IsNear K.state other)
+  pub any_moment : LeavesNowIfTold u.told.history (IsNear K.state K.other)
+      → LeavesOnlyIfTold u.told.history v.told.history (λ c. IsNear K.state K.other c
+      ⊎ IsNear K.state other c)
+  pub behind : LeavesNowIfTold u.told.history (IsNear K.state K.other)
+      → LeavesNowIfTold v.told.history (IsNear K.state other)
 
 -- a refusal leaves the core as it was, and a crash at any moment of the call what it could leave before
 pub record IsStill (u v : View) (K : Core) : Type 0 where
   pub keeps : Keeps v K
-  pub any_moment : LeavesNowIfTold u.told.history (IsNear K.state K.other) → LeavesOnlyIfTold u.told.history v.told.history (IsNear K.state K.other)
+  pub any_moment : LeavesNowIfTold u.told.history (IsNear K.state K.other)
+      → LeavesOnlyIfTold u.told.history v.told.history (IsNear K.state K.other)
 
 -- why a deletion was refused: its version is the latest of its set or above it, or the shelf failed in it
 abbrev pub IsDeletionFault : ℕ → ℕ → Type 0 → Fault → Type 0
@@ -83,7 +87,8 @@ pub record Lists (pins : List Pin) (number id : ℕ) (c : Container) : Type 0 wh
   pub listed : Contains pin.containers c
   pub has_id : c.table.id ≡ id
 
--- the sum that a recipe gives is that of the kept version, and it is in the second format; one of the first gives none
+-- the sum that a recipe gives is that of the kept version, and it is in the second format; one of
+-- the first gives none
 abbrev pub IsWholeOf : Option Blobs → ℕ → ℕ → KeptVersion → Option Fp → Type 0
 IsWholeOf told s v k whole =
     ((whole ≡ Some k.sum) × Has told (recipe_name s v) (Some (recipe_bytes_2 k.sum (recipe_of s v k))))
@@ -91,10 +96,12 @@ IsWholeOf told s v k whole =
 
 -- the pin lists the container of a spot, and the spot lies within its payload
 abbrev pub HasListed : List Pin → ℕ → Spot → Type 0
-HasListed pins number s = (c : Container) × Lists pins number s.id c × (s.at + s.len ≤ payload_len c.table.rows)
+HasListed pins number s =
+    (c : Container) × Lists pins number s.id c × (s.at + s.len ≤ payload_len c.table.rows)
 
 -- what a pin gives of its version
-pub record IsPinned (S : State) (k : KeptVersion) (total : ℕ) (spots : List Spot) (whole : Option Fp) : Type 0 where
+pub record IsPinned (S : State) (k : KeptVersion) (total : ℕ) (spots : List Spot)
+    (whole : Option Fp) : Type 0 where
   pub bytes : total ≡ length_of k.rows
   pub spots_are : spots ≡ map (spot_of S.containers) k.rows
   pub rows : AllByRecursion (HasRow S.containers) k.rows
@@ -111,9 +118,12 @@ unplaced_fault s v (unplaced.BadRow i) = fault.Damaged kind.Recipe (recipe_name 
 
 -- a row of the kept version is not in the table of its container with its length
 abbrev pub IsBadRow : Option Blobs → State → ℕ → ℕ → ℕ → Type 0
-IsBadRow told S s v i = IsSome told → (k : KeptVersion) → version_of S s v ≡ Some k → IsSomeAnd (slice_get k.rows i) (λ r. HasRow S.containers r → ⊥)
+IsBadRow told S s v i =
+    IsSome told → (k : KeptVersion) → version_of S s v ≡ Some k
+    → IsSomeAnd (slice_get k.rows i) (λ r. HasRow S.containers r → ⊥)
 
 -- what the shelf's answer shows where a version can't be pinned
 abbrev pub IsPinDamage : Option Blobs → State → ℕ → ℕ → Kind → ℕ → Why → Type 0
-IsPinDamage told S s v kind.Recipe number (why.BadRow i) = (number ≡ (recipe_name s v).number) × IsBadRow told S s v i
+IsPinDamage told S s v kind.Recipe number (why.BadRow i) =
+    (number ≡ (recipe_name s v).number) × IsBadRow told S s v i
 IsPinDamage told S s v k number w = IsRecipeDamage told s v k number w

@@ -8,16 +8,16 @@ ghost use Rattle.vault_types.specs.Delete.{delete, removed};
 ghost use Rattle.vault_types.specs.Shelf.{blob_at};
 ghost use Rattle.vault_types.specs.Events.{Core, IsNear, after_delete, after_release, delete_change};
 ghost use Rattle.vault_traits.specs.Crash.{LeavesNowIfTold, LeavesOnlyIfTold};
-ghost use Rattle.restore_pins.specs.Pins.{numbers, without};
+ghost use Rattle.restore_pins.specs.Pins.{numbers, without_pin};
 ghost use Rattle.deletion_laws.specs.Deleting.{IsDeleting};
 ghost use Rattle.deletion_laws.specs.Releasing.{IsReleased};
 ghost use Rattle.state_laws.specs.Parts.{HeldIfTold};
 ghost use Rattle.vault_types.specs.RecipeForms.{KeepsRecipes};
 ghost use Rattle.keeper_catalog.specs.View.{Keeps};
-ghost use Rattle.keeper_core.specs.Calls.{IsHalf, IsStill, IsDeletionFault};
+ghost use Rattle.keeper_core.specs.Deletes.{DeletesThrough};
+ghost use Rattle.keeper_core.specs.Releases.{Releases};
 
 use crate::keeper::{Keeper, Stand};
-use keeper_jobs::mend_for;
 use keeper_removals::{delete_versions, release_pin};
 use restore_pins::PinNo;
 use vault_traits::Shelf;
@@ -31,33 +31,7 @@ impl<S: Shelf> Keeper<S> {
     /// set may have the new floor or not until a mending.
     pub fn delete_through(&mut self, set: Set, through: Version) -> Result<Answer, Fault>
         requires { self.old.job ≡ None }
-        ensures ok { IfOk result (λ answer. (K : Core) → Keeps self.old K → (through < latest_of K.state set) × (answer ≡ removed K.state set through) × Keeps self.new (after_delete set through self.new.memo.strays K)) }
-        ensures err { IfErr result (λ f. (K : Core) → Keeps self.old K → IsStill self.old self.new K ⊎ IsHalf self.old self.new (delete_change set through K.state) None f K) }
-        ensures still { (K : Core) → Keeps self.old K → latest_of K.state set ≤ through → self.new ≡ self.old }
-        ensures last { (K : Core) → Keeps self.old K → latest_of K.state set ≤ through → result ≡ Err (fault.LastVersion set through (latest_of K.state set)) }
-        ensures cause { IfErr result (λ f. (K : Core) → Keeps self.old K → IsDeletionFault self.old.told.faults self.new.told.faults (latest_of K.state set ≤ through) f) }
-        ensures later { self.old.told.faults ≤ self.new.told.faults }
-
-        // Whatever comes of it there is no job, and the pins stay; a refusal leaves what is in memory of the store, and a
-        // shelf that tells its blobs goes on.
-        ensures same { (self.new.job ≡ None) × (self.new.pins ≡ self.old.pins) }
-        ensures memo { IfErr result (λ f. self.new.memo ≡ self.old.memo) }
-        ensures tells { IsSome self.old.told.blobs → IsSome self.new.told.blobs }
-
-        // Each recipe that is kept behind it is as it was.
-        ensures recipes { OnOk result (IsSome self.old.told.blobs → (K : Core) → Keeps self.old K → KeepsRecipes (delete K.state set through) self.old.told.blobs self.new.told.blobs) }
-        ensures all_recipes { OnErr result ((K : Core) → Keeps self.old K → KeepsRecipes K.state self.old.told.blobs self.new.told.blobs) }
-
-        // A crash at any moment leaves what it could leave before, or the state before or behind the deletion; at `Ok`
-        // only the one behind it, whatever could be left before where a mending was due. No refusal ends a mending.
-        ensures any_moment { (K : Core) → Keeps self.old K → LeavesNowIfTold self.old.told.history (IsNear K.state K.other)
-            → LeavesOnlyIfTold self.old.told.history self.new.told.history (λ c. IsNear K.state K.other c ⊎ IsDeleting K.state set through c) }
-        ensures acknowledged { OnOk result ((K : Core) → Keeps self.old K → (self.old.pending ≡ Pending.Not → LeavesNowIfTold self.old.told.history (IsNear K.state K.other)) → LeavesNowIfTold self.new.told.history (IsNear (delete K.state set through) None)) }
-        ensures due { OnErr result (self.new.pending ≡ Pending.Not → self.old.pending ≡ Pending.Not) }
-
-        // At most one name is left for each removal that failed.
-        ensures few { OnOk result (self.new.told.faults < 2 ^ 64 - 1 → length self.new.memo.strays + self.old.told.faults ≤ self.new.told.faults) }
-        ensures gets { self.new.told.gets ≡ self.old.told.gets }
+        ensures { DeletesThrough set through self.old self.new result }
     {
         let latest = self.latest(set);
         if through >= latest {
@@ -67,7 +41,7 @@ impl<S: Shelf> Keeper<S> {
                 latest,
             });
         }
-        mend_for(&mut self.shelf, &self.catalog.sets, &mut self.pending, set)?;
+        self.mend_first(set)?;
         match &mut self.stand {
             Stand::Lent(_, _) => unreachable!(),
             Stand::Here(index) => {
@@ -101,21 +75,7 @@ impl<S: Shelf> Keeper<S> {
     /// fails leaves a stray. Takes no memory.
     pub fn release(&mut self, no: PinNo)
         requires { IsTrue (has no (numbers self.old.pins)) }
-        ensures releases { (K : Core) → Keeps self.old K → Keeps self.new (after_release no self.new.memo.strays K) }
-        ensures pins { self.new.pins ≡ without no self.old.pins }
-        ensures others { (K : Core) → Keeps self.old K → (n : Named) → (IsReleased K no n → ⊥) → blob_at self.new.told.blobs n ≡ blob_at self.old.told.blobs n }
-        ensures any_moment { (K : Core) → Keeps self.old K → LeavesNowIfTold self.old.told.history (IsNear K.state K.other)
-            → LeavesOnlyIfTold self.old.told.history self.new.told.history (IsNear K.state K.other) }
-
-        // Each stray was one before or is a name that the pin alone held; none goes, and at most one comes for each removal
-        // that failed.
-        ensures within { (K : Core) → Keeps self.old K → (n : Named) → Contains self.new.memo.strays n → Contains self.old.memo.strays n ⊎ IsReleased K no n }
-        ensures few { self.new.told.faults < 2 ^ 64 - 1 → length self.new.memo.strays + self.old.told.faults ≤ length self.old.memo.strays + self.new.told.faults }
-        ensures added { (added : List Named) × (self.new.memo.strays ≡ self.old.memo.strays ++ added) }
-        ensures tells { IsSome self.old.told.blobs → IsSome self.new.told.blobs }
-        ensures gets { self.new.told.gets ≡ self.old.told.gets }
-        ensures later { self.old.told.faults ≤ self.new.told.faults }
-        ensures same { (self.new.index ≡ self.old.index) × (self.new.job ≡ self.old.job) × (self.new.pending ≡ self.old.pending) }
+        ensures { Releases no self.old self.new }
     {
         release_pin(&mut self.shelf, &mut self.catalog, &mut self.pins, no);
     }

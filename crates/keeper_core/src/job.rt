@@ -10,7 +10,9 @@ ghost use Rattle.commit_laws.specs.Laws.{AreStraysLeft};
 ghost use Rattle.keeper_catalog.specs.View.{Keeps, HasCore};
 ghost use Rattle.keeper_jobs.specs.Jobs.{names_of, version_by};
 ghost use Rattle.keeper_core.specs.Stands.{index_of, job_of};
-ghost use Rattle.keeper_core.specs.Calls.{IsBegun, IsHalf, IsShelfFault, IsDue, due_after};
+ghost use Rattle.keeper_core.specs.Mends.{MendsFirst};
+ghost use Rattle.keeper_core.specs.Calls.{IsBegun, IsDue, due_after};
+ghost use Rattle.keeper_core.specs.Commits.{CommitsJob, halt_fault};
 
 use crate::keeper::{Begun, Keeper, Stand, next_of_sets};
 use container_store::Sealed;
@@ -30,30 +32,45 @@ impl<S: Shelf> Keeper<S> {
     pub fn mend(&mut self) -> Result<(), Fault>
         ensures ok { OnOk result ((K : Core) → Keeps self.old K → Keeps self.new (after_mend K.strays K)) }
         ensures err { OnErr result ((K : Core) → Keeps self.old K → Keeps self.new K) }
-        ensures any_moment { (K : Core) → Keeps self.old K → LeavesNowIfTold self.old.told.history (IsNear K.state K.other)
+        ensures any_moment { (K : Core) → Keeps self.old K
+            → LeavesNowIfTold self.old.told.history (IsNear K.state K.other)
             → LeavesOnlyIfTold self.old.told.history self.new.told.history (IsNear K.state K.other) }
-        ensures acknowledged { OnOk result (self.old.pending ≢ Pending.Not → (K : Core) → Keeps self.old K → LeavesNowIfTold self.new.told.history (IsNear K.state None)) }
-        ensures same { (self.new.memo ≡ self.old.memo) × (self.new.index ≡ self.old.index) × (self.new.pins ≡ self.old.pins) × (self.new.job ≡ self.old.job) }
+        ensures acknowledged { OnOk result (self.old.pending ≢ Pending.Not → (K : Core) → Keeps self.old K
+            → LeavesNowIfTold self.new.told.history (IsNear K.state None)) }
+        ensures same { (self.new.memo ≡ self.old.memo) × (self.new.index ≡ self.old.index)
+            × (self.new.pins ≡ self.old.pins) × (self.new.job ≡ self.old.job) }
         ensures tells { IsSome self.old.told.blobs → IsSome self.new.told.blobs }
         ensures gets { self.new.told.gets ≡ self.old.told.gets }
         ensures causes { HasStoreFault self.old.told.faults self.new.told.faults result }
     {
-        mend_for(&mut self.shelf, &self.catalog.sets, &mut self.pending, 0)?;
-        Ok(())
+        self.mend_first(0)
+    }
+
+    // Mends before a change of the set, where that is due: after opening that set. `StoreFault`, after which it is still
+    // due. Takes no memory.
+    pub(crate) fn mend_first(&mut self, set: Set) -> Result<(), Fault>
+        ensures { MendsFirst self.old self.new result }
+    {
+        mend_for(&mut self.shelf, &self.catalog.sets, &mut self.pending, set)
     }
 
     /// Begins a job of a set, and lends it the index. `Memory`, and then `StoreFault` of a mending that was due. After an
     /// `Err` there is no job.
     pub fn begin(&mut self, alloc: Global, set: Set) -> Result<Begun, Fault>
         requires { self.old.job ≡ None }
-        ensures ok { IfOk result (λ b. (K : Core) → Keeps self.old K → Keeps self.new (after_begin set K.strays K) × IsBegun K.state set b) }
+        ensures ok { IfOk result (λ b. (K : Core) → Keeps self.old K
+            → Keeps self.new (after_begin set K.strays K) × IsBegun K.state set b) }
         ensures lent { IfOk result (λ b. (b.index ≡ self.new.index) × (self.new.index ≡ self.old.index)) }
         ensures core { OnOk result (HasCore self.old) }
-        ensures err { OnErr result (((K : Core) → Keeps self.old K → Keeps self.new K) × (self.new.job ≡ None)) }
-        ensures any_moment { (K : Core) → Keeps self.old K → LeavesNowIfTold self.old.told.history (IsNear K.state K.other)
+        ensures err { OnErr result (((K : Core) → Keeps self.old K → Keeps self.new K)
+            × (self.new.job ≡ None)) }
+        ensures any_moment { (K : Core) → Keeps self.old K
+            → LeavesNowIfTold self.old.told.history (IsNear K.state K.other)
             → LeavesOnlyIfTold self.old.told.history self.new.told.history (IsNear K.state K.other) }
-        ensures acknowledged { IfOk result (λ b. self.old.pending ≢ Pending.Not → (K : Core) → Keeps self.old K → LeavesNowIfTold self.new.told.history (IsNear K.state None)) }
-        ensures recipes { (K : Core) → Keeps self.old K → KeepsRecipes K.state self.old.told.blobs self.new.told.blobs }
+        ensures acknowledged { IfOk result (λ b. self.old.pending ≢ Pending.Not → (K : Core)
+            → Keeps self.old K → LeavesNowIfTold self.new.told.history (IsNear K.state None)) }
+        ensures recipes { (K : Core) → Keeps self.old K
+            → KeepsRecipes K.state self.old.told.blobs self.new.told.blobs }
         ensures tells { IsSome self.old.told.blobs → IsSome self.new.told.blobs }
         ensures pins { self.new.pins ≡ self.old.pins }
         ensures gets { self.new.told.gets ≡ self.old.told.gets }
@@ -85,14 +102,19 @@ impl<S: Shelf> Keeper<S> {
     pub fn put(&mut self, alloc: Global, sealed: Sealed) -> Result<(), Fault>
         requires next { IsSomeAnd self.old.job (λ j. sealed.table.id ≡ j.next) }
         requires low { sealed.table.id + 1 < 2 ^ 64 }
-        ensures ok { OnOk result ((K : Core) → Keeps self.old K → Keeps self.new (after_put sealed self.new.memo.strays K)) }
-        ensures err { OnErr result ((K : Core) → Keeps self.old K → Keeps self.new (after_refused K.other K.job self.new.memo.strays self.new.pending K)) }
-        ensures any_moment { (K : Core) → Keeps self.old K → LeavesNowIfTold self.old.told.history (IsNear K.state K.other)
+        ensures ok { OnOk result ((K : Core) → Keeps self.old K
+            → Keeps self.new (after_put sealed self.new.memo.strays K)) }
+        ensures err { OnErr result ((K : Core) → Keeps self.old K
+            → Keeps self.new (after_refused K.other K.job self.new.memo.strays self.new.pending K)) }
+        ensures any_moment { (K : Core) → Keeps self.old K
+            → LeavesNowIfTold self.old.told.history (IsNear K.state K.other)
             → LeavesOnlyIfTold self.old.told.history self.new.told.history (IsNear K.state K.other) }
-        ensures strays { (self.new.memo.strays ≡ self.old.memo.strays) ⊎ (self.new.memo.strays ≡ self.old.memo.strays ++ names_of sealed.table.id) }
+        ensures strays { (self.new.memo.strays ≡ self.old.memo.strays)
+            ⊎ (self.new.memo.strays ≡ self.old.memo.strays ++ names_of sealed.table.id) }
         ensures due { IfErr result (λ f. IsDue f self.old.job self.old.pending self.new.pending) }
         ensures lent { self.new.index ≡ self.old.index }
-        ensures recipes { (s v : ℕ) → blob_at self.new.told.blobs (recipe_name s v) ≡ blob_at self.old.told.blobs (recipe_name s v) }
+        ensures recipes { (s v : ℕ)
+            → blob_at self.new.told.blobs (recipe_name s v) ≡ blob_at self.old.told.blobs (recipe_name s v) }
         ensures tells { IsSome self.old.told.blobs → IsSome self.new.told.blobs }
         ensures pins { self.new.pins ≡ self.old.pins }
         ensures gets { self.new.told.gets ≡ self.old.told.gets }
@@ -120,58 +142,28 @@ impl<S: Shelf> Keeper<S> {
     pub fn commit(&mut self, alloc: Global, index: Index, recipe: Recipe) -> Result<(), Fault>
         requires lent { index ≡ self.old.index }
         requires can { (K : Core) × (j : Job) × Keeps self.old K × CanCommit K j recipe }
-        ensures ok { OnOk result ((K : Core) (j : Job) → Keeps self.old K → CanCommit K j recipe → Keeps self.new (after_commit (version_by K j recipe) j self.new.memo.strays K)) }
-        ensures err { IfErr result (λ f. (K : Core) (j : Job) → Keeps self.old K → CanCommit K j recipe → IsHalf self.old self.new (commit_change (version_by K j recipe) j recipe K.state) None f K) }
-
-        // The recipe's blob is its spelling, and each recipe that was kept is as it was.
-        ensures spelled { OnOk result ((K : Core) (j : Job) → Keeps self.old K → CanCommit K j recipe → Has self.new.told.blobs (recipe_name recipe.set recipe.version) (Some (recipe_bytes recipe))) }
-        ensures recipes { (K : Core) (j : Job) → Keeps self.old K → CanCommit K j recipe → KeepsRecipes K.state self.old.told.blobs self.new.told.blobs }
-
-        // A crash at any moment leaves the state from before or the one after; at `Ok` only the one after.
-        ensures any_moment { (K : Core) (j : Job) → Keeps self.old K → CanCommit K j recipe → LeavesNowIfTold self.old.told.history (IsNear K.state None)
-            → LeavesOnlyIfTold self.old.told.history self.new.told.history (IsNear K.state (Some (commit_change (version_by K j recipe) j recipe K.state))) }
-        ensures acknowledged { OnOk result ((K : Core) (j : Job) → Keeps self.old K → CanCommit K j recipe → LeavesNowIfTold self.new.told.history (IsNear (committed (version_by K j recipe) j K.state) None)) }
-        ensures due { IfErr result (λ f. IsDue f self.old.job self.old.pending self.new.pending) }
-
-        // Where it is done the job's names are no strays any more; where it is refused the recipe's name may be one more,
-        // if the shelf failed.
-        ensures left { OnOk result ((K : Core) (j : Job) → Keeps self.old K → CanCommit K j recipe → AreStraysLeft self.old.memo.strays (recipe_name j.set recipe.version) j.containers self.new.memo.strays) }
-        ensures strays { IfErr result (λ f. (self.new.memo.strays ≡ self.old.memo.strays) ⊎ ((self.new.memo.strays ≡ self.old.memo.strays ++ recipe_name recipe.set recipe.version ∷ []) × IsShelfFault f)) }
-        ensures tells { IsSome self.old.told.blobs → IsSome self.new.told.blobs }
-        ensures pins { self.new.pins ≡ self.old.pins }
-        ensures gets { self.new.told.gets ≡ self.old.told.gets }
-        ensures causes { HasCauses self.old.told.faults self.new.told.faults IsUndamaged result }
+        ensures { CommitsJob recipe self.old self.new result }
     {
         let job = match &self.stand {
             Stand::Here(_) => unreachable!(),
             Stand::Lent(job, _) => *job,
         };
         let mut index = index;
-        match commit_recipe(
+        let committed = commit_recipe(
             alloc,
             &mut self.shelf,
             &mut self.catalog,
             &mut index,
             job,
             recipe,
-        ) {
-            Ok(()) => {
-                self.stand = Stand::Here(index);
-                Ok(())
-            }
-            Err(Halt::Before(Refused::Memory)) => {
-                self.stand = Stand::Here(index);
-                Err(Fault::Memory)
-            }
-            Err(Halt::Before(Refused::Failed)) => {
-                self.stand = Stand::Here(index);
-                self.pending = Pending::FailedFor(job.set);
-                Err(Fault::StoreFault(self.shelf.faults()))
-            }
-            Err(Halt::Half) => {
-                self.stand = Stand::Here(index);
-                self.pending = Pending::FailedFor(job.set);
-                Err(Fault::StoreFault(self.shelf.faults()))
+        );
+        self.stand = Stand::Here(index);
+        match committed {
+            Ok(()) => Ok(()),
+            Err(halt) => {
+                let fault = halt_fault(halt, self.shelf.faults());
+                self.pending = due_after(&fault, job.set, self.pending);
+                Err(fault)
             }
         }
     }
@@ -182,7 +174,8 @@ impl<S: Shelf> Keeper<S> {
         requires in_job { IsSome self.old.job }
         ensures aborts { (K : Core) → Keeps self.old K → Keeps self.new (after_abort K) }
         ensures shelf { self.new.told ≡ self.old.told }
-        ensures same { (self.new.memo.strays ≡ self.old.memo.strays) × (self.new.pending ≡ self.old.pending) × (self.new.index ≡ self.old.index) }
+        ensures same { (self.new.memo.strays ≡ self.old.memo.strays) × (self.new.pending ≡ self.old.pending)
+            × (self.new.index ≡ self.old.index) }
         ensures pins { self.new.pins ≡ self.old.pins }
     {
         let job = match &self.stand {
@@ -201,6 +194,17 @@ fn due_after(fault: &Fault, set: Set, pending: Pending) -> Pending
     match fault {
         Fault::StoreFault(_) => Pending::FailedFor(set),
         _ => pending,
+    }
+}
+
+// The fault of a commit that stopped, when the shelf had failed so often.
+fn halt_fault(halt: Halt, faults: u64) -> Fault
+    ensures { result ≡ halt_fault faults halt }
+{
+    match halt {
+        Halt::Before(Refused::Memory) => Fault::Memory,
+        Halt::Before(Refused::Failed) => Fault::StoreFault(faults),
+        Halt::Half => Fault::StoreFault(faults),
     }
 }
 

@@ -41,9 +41,27 @@ impl<S: Shelf> Model for Keeper<S> {
 
     ghost coded = { Prim.hlevel (codes, coded_blobs, coded_history) };
 
-    ghost view = { λ k. record { told = S.told k.shelf; memo = memo_of k.catalog; index = index_of k.stand; pins = k.pins; job = job_of k.stand; pending = k.pending } };
+    ghost view = { λ k.
+        record {
+          told = S.told k.shelf;
+          memo = memo_of k.catalog;
+          index = index_of k.stand;
+          pins = k.pins;
+          job = job_of k.stand;
+          pending = k.pending;
+        } };
 
-    ghost invariant = { λ k. HasCore (record { told = S.told k.shelf; memo = memo_of k.catalog; index = index_of k.stand; pins = k.pins; job = job_of k.stand; pending = k.pending }) × HasRoom (memo_of k.catalog) };
+    ghost invariant = { λ k.
+        HasCore
+        (record {
+          told = S.told k.shelf;
+          memo = memo_of k.catalog;
+          index = index_of k.stand;
+          pins = k.pins;
+          job = job_of k.stand;
+          pending = k.pending;
+        })
+        × HasRoom (memo_of k.catalog) };
 }
 
 /// What a job is told at its beginning: its set, the number that its version will have, the id of its first container,
@@ -86,7 +104,7 @@ impl<S: Shelf> Keeper<S> {
         next_of_sets(&self.catalog.sets)
     }
 
-    /// For a caller's proof: some core is kept. Does nothing.
+    /// For a caller's proof, which can't open a keeper and read its invariant: some core is kept. Does nothing.
     pub fn keeps_some_core(&self)
         ensures { HasCore self.now }
     {

@@ -15,7 +15,8 @@ ghost use Rattle.row_spots.specs.declared.Unplaced.TheVariants as unplaced;
 ghost use Rattle.row_spots.specs.Spots.{spot_in, HasPlace, AreRuled};
 ghost use Rattle.keeper_catalog.specs.Catalog.{memo_of};
 ghost use Rattle.keeper_catalog.specs.View.{Keeps, HasCore};
-ghost use Rattle.keeper_core.specs.Calls.{IsPinned, IsPinDamage, IsWholeOf, IsUnplaced, HasListed, Lists, unplaced_fault};
+ghost use Rattle.keeper_core.specs.Calls.{IsUnplaced, Lists, unplaced_fault};
+ghost use Rattle.keeper_core.specs.Pins.{PinsVersion};
 
 use crate::keeper::Keeper;
 use keeper_catalog::{Catalog, distinct_ids};
@@ -40,8 +41,10 @@ pub struct Pinned {
 // The place of the first row, from 0, whose container no version names.
 fn first_unnamed(markers: &SetMarkers, rows: &[Row]) -> Option<u32>
     requires { length rows.now < 2 ^ 32 }
-    ensures none { IfNone result ((marks : List Mark) → AreMarkersOfSets markers.now marks → All (λ r. has r.id (marked_ids marks) ≡ true) rows.now) }
-    ensures some { IfSome result (λ i. (marks : List Mark) → AreMarkersOfSets markers.now marks → IsSomeAnd (slice_get rows.now i) (λ r. has r.id (marked_ids marks) ≡ false)) }
+    ensures none { IfNone result ((marks : List Mark) → AreMarkersOfSets markers.now marks
+        → All (λ r. has r.id (marked_ids marks) ≡ true) rows.now) }
+    ensures some { IfSome result (λ i. (marks : List Mark) → AreMarkersOfSets markers.now marks
+        → IsSomeAnd (slice_get rows.now i) (λ r. has r.id (marked_ids marks) ≡ false)) }
 {
     let mut number = 0u32;
     for row in rows {
@@ -57,10 +60,12 @@ fn first_unnamed(markers: &SetMarkers, rows: &[Row]) -> Option<u32>
 fn spots_in(alloc: Global, catalog: &Catalog, rows: &[Row]) -> Result<Vec<Spot>, Unplaced>
     requires few { length rows.now < 2 ^ 32 }
     requires rules { AreRuled (memo_of catalog.now).tables }
-    ensures named { OnOk result ((marks : List Mark) → AreMarkersOfSets (memo_of catalog.now).markers marks → All (λ r. has r.id (marked_ids marks) ≡ true) rows.now) }
+    ensures named { OnOk result ((marks : List Mark) → AreMarkersOfSets (memo_of catalog.now).markers marks
+        → All (λ r. has r.id (marked_ids marks) ≡ true) rows.now) }
     ensures spots { IfOk result (λ spots. spots.items ≡ map (spot_in (memo_of catalog.now).tables) rows.now) }
     ensures placed { OnOk result (AllByRecursion (HasPlace (memo_of catalog.now).tables) rows.now) }
-    ensures bad { (i : ℕ) → result ≡ Err (unplaced.BadRow i) → (marks : List Mark) → AreMarkersOfSets (memo_of catalog.now).markers marks
+    ensures bad { (i : ℕ) → result ≡ Err (unplaced.BadRow i) → (marks : List Mark)
+        → AreMarkersOfSets (memo_of catalog.now).markers marks
         → IsSomeAnd (slice_get rows.now i) (IsUnplaced (memo_of catalog.now).tables marks) }
 {
     if let Some(row) = first_unnamed(&catalog.markers, rows) {
@@ -88,17 +93,7 @@ impl<S: Shelf> Keeper<S> {
     /// `Damaged`, where the recipe is absent or is spelled as none, or where one of its rows is not in the table of its
     /// container with its length; `Memory`. After an `Err` nothing is pinned, and all is as before.
     pub fn pin(&mut self, alloc: Global, set: Set, version: Version) -> Result<Pinned, Fault>
-        ensures ok { IfOk result (λ p. IsSome self.old.told.blobs → (K : Core) (k : KeptVersion) → Keeps self.old K → version_of K.state set version ≡ Some k → Keeps self.new (after_pin p.no set version k K) × IsPinned K.state k p.length p.spots.items p.whole) }
-        ensures whole { IfOk result (λ p. IsSome self.old.told.blobs → (K : Core) (k : KeptVersion) → Keeps self.old K → version_of K.state set version ≡ Some k → IsWholeOf self.old.told.blobs set version k p.whole) }
-        ensures pinned { IfOk result (λ p. (K : Core) → Keeps self.old K → (pin : Pin) × (pin.number ≡ p.no) × ((c : Container) → Contains pin.containers c → Contains K.state.containers c) × Keeps self.new (with_pins (K.pins ++ pin ∷ []) K.strays K)) }
-        ensures given { IfOk result (λ p. (ids : List ℕ) × (self.new.pins ≡ self.old.pins ++ record { number = p.no; version = version; ids = ids } ∷ [])) }
-        ensures fresh { IfOk result (λ p. has p.no (numbers self.old.pins) ≡ false) }
-        ensures lists { IfOk result (λ p. (K : Core) → Keeps self.new K → AllByRecursion (HasListed K.pins p.no) p.spots.items) }
-        ensures core { HasCore self.new }
-        ensures err { OnErr result (((K : Core) → Keeps self.old K → Keeps self.new K) × (self.new.pins ≡ self.old.pins)) }
-        ensures same { (self.new.memo ≡ self.old.memo) × (self.new.index ≡ self.old.index) × (self.new.job ≡ self.old.job) × (self.new.pending ≡ self.old.pending) }
-        ensures shelf { (self.new.told.blobs ≡ self.old.told.blobs) × (self.new.told.history ≡ self.old.told.history) × (self.new.told.gets ≡ self.old.told.gets) }
-        ensures causes { (K : Core) → Keeps self.old K → HasCauses self.old.told.faults self.new.told.faults (IsPinDamage self.old.told.blobs K.state set version) result }
+        ensures { PinsVersion set version self.old self.new result }
     {
         let recipe = get_recipe(alloc, &mut self.shelf, set, version)?;
         let rows = recipe.rows.as_slice();
@@ -120,12 +115,20 @@ impl<S: Shelf> Keeper<S> {
     /// it is absent or has another length or SHA-1 than its table says; `Memory`. After an `Err`, too, all is as before.
     pub fn load(&mut self, alloc: Global, no: &PinNo, id: Id) -> Result<Vec<u8>, Fault>
         requires { (K : Core) × (c : Container) × Keeps self.old K × Lists K.pins no.now id c }
-        ensures given { IfOk result (λ bytes. IsSome self.old.told.blobs → (K : Core) (c : Container) → Keeps self.old K → Lists K.pins no.now id c → c.payload ≡ Some bytes.items) }
-        ensures whole { IfOk result (λ bytes. (K : Core) (c : Container) → Keeps self.old K → Lists K.pins no.now id c → IsPayloadOf c.table bytes.items) }
+        ensures given { IfOk result (λ bytes. IsSome self.old.told.blobs → (K : Core) (c : Container)
+            → Keeps self.old K → Lists K.pins no.now id c → c.payload ≡ Some bytes.items) }
+        ensures whole { IfOk result (λ bytes. (K : Core) (c : Container) → Keeps self.old K
+            → Lists K.pins no.now id c → IsPayloadOf c.table bytes.items) }
         ensures keeps { (K : Core) → Keeps self.old K → Keeps self.new K }
-        ensures same { (self.new.memo ≡ self.old.memo) × (self.new.index ≡ self.old.index) × (self.new.pins ≡ self.old.pins) × (self.new.job ≡ self.old.job) × (self.new.pending ≡ self.old.pending) }
-        ensures shelf { (self.new.told.blobs ≡ self.old.told.blobs) × (self.new.told.history ≡ self.old.told.history) × (self.new.told.gets ≡ counted self.old.told.gets) }
-        ensures causes { (K : Core) (c : Container) → Keeps self.old K → Lists K.pins no.now id c → HasCauses self.old.told.faults self.new.told.faults (IsPayloadDamage self.old.told.blobs c.table) result }
+        ensures same { (self.new.memo ≡ self.old.memo) × (self.new.index ≡ self.old.index)
+            × (self.new.pins ≡ self.old.pins) × (self.new.job ≡ self.old.job)
+            × (self.new.pending ≡ self.old.pending) }
+        ensures shelf { (self.new.told.blobs ≡ self.old.told.blobs)
+            × (self.new.told.history ≡ self.old.told.history)
+            × (self.new.told.gets ≡ counted self.old.told.gets) }
+        ensures causes { (K : Core) (c : Container) → Keeps self.old K → Lists K.pins no.now id c
+            → HasCauses self.old.told.faults self.new.told.faults
+            (IsPayloadDamage self.old.told.blobs c.table) result }
     {
         let _no = no;
         match self.catalog.tables.get(&id) {

@@ -29,7 +29,8 @@ impl<S: Shelf> Keeper<S> {
     /// How many bytes the payload of a container has that a version names; none of another one, also where a pin lists it
     /// or the open job has put it. Takes no memory.
     pub fn payload_len(&self, id: Id) -> Option<u32>
-        ensures { (K : Core) → Keeps self.now K → result ≡ option_map (λ c. payload_len c.table.rows) (container_in K.state.containers id) }
+        ensures { (K : Core) → Keeps self.now K
+            → result ≡ option_map (λ c. payload_len c.table.rows) (container_in K.state.containers id) }
     {
         if !self.catalog.markers.named(id) {
             return None;

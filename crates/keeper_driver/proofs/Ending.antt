@@ -13,15 +13,15 @@ use Rattle.keeper_core.specs.declared.keeper.Begun.{Begun}
 use Rattle.keeper_core.specs.Calls.{IsBegun}
 use Rattle.keeper_core.proofs.Keeping.{no_job}
 use Rattle.keeper_driver.specs.declared.jobs.Draft.{Draft}
-use Rattle.keeper_driver.specs.Drafts.{IsIdle, IsOpen, IsDraft}
+use Rattle.keeper_driver.specs.Drafts.{HasNoJob, HasOpenJob, IsDraft}
 
-pub idle : (w : View) (K : Core) → Keeps w K → K.job ≡ None → IsIdle w
+pub idle : (w : View) (K : Core) → Keeps w K → K.job ≡ None → HasNoJob w
 idle w K keeps none = record { core = K; keeps = keeps; no_job = keeps.job ∙ ap (option_map (job_info K.state)) none }
 
-pub idle_job : (v : View) (is : IsIdle v) → is.core.job ≡ None
+pub idle_job : (v : View) (is : HasNoJob v) → is.core.job ≡ None
 idle_job v is = no_job is.core.state is.core.job (sym is.keeps.job ∙ is.no_job)
 
-pub begun : (v w : View) (is : IsIdle v) (d : Draft) (b : Begun) (s : ℕ) → ((K : Core) → Keeps v K → Keeps w (after_begin s K.strays K) × IsBegun K.state s b) → b.index ≡ w.index
+pub begun : (v w : View) (is : HasNoJob v) (d : Draft) (b : Begun) (s : ℕ) → ((K : Core) → Keeps v K → Keeps w (after_begin s K.strays K) × IsBegun K.state s b) → b.index ≡ w.index
     → d.set ≡ b.set → d.version ≡ b.version → d.next ≡ b.next → d.index ≡ b.index → d.rows ≡ [] → IsDraft w d
 begun v w is d b s begins lent set version next index rows =
     let K = is.core in
@@ -41,11 +41,11 @@ begun v w is d b s begins lent set version next index rows =
 pub next_put : (v : View) (d : Draft) (is : IsDraft v d) (id : ℕ) → id ≡ d.next → IsSomeAnd v.job (λ j. id ≡ j.next)
 next_put v d is id at = subst (λ (o : Option JobInfo). IsSomeAnd o (λ j. id ≡ j.next)) (sym (is.opened.keeps.job ∙ ap (option_map (job_info is.opened.core.state)) is.opened.open_job)) (at ∙ is.next)
 
-pub in_job : (v : View) (d : Draft) (is : IsOpen v d) → IsSome v.job
+pub in_job : (v : View) (d : Draft) (is : HasOpenJob v d) → IsSome v.job
 in_job v d is = subst (λ (o : Option JobInfo). IsSome o) (sym (is.keeps.job ∙ ap (option_map (job_info is.core.state)) is.open_job)) refl
 
 -- a put was refused
-pub refused : (v w : View) (d e : Draft) (is : IsOpen v d) (strays : List Name) (waits : Pending) → Keeps w (after_refused is.core.other is.core.job strays waits is.core) → w.index ≡ v.index → e.index ≡ d.index → IsOpen w e
+pub refused : (v w : View) (d e : Draft) (is : HasOpenJob v d) (strays : List Name) (waits : Pending) → Keeps w (after_refused is.core.other is.core.job strays waits is.core) → w.index ≡ v.index → e.index ≡ d.index → HasOpenJob w e
 refused v w d e is strays waits keeps same index = record {
   core = after_refused is.core.other is.core.job strays waits is.core;
   keeps = keeps;

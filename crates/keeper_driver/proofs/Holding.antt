@@ -14,7 +14,7 @@ use Rattle.keeper_catalog.specs.View.{View, Keeps}
 use Rattle.commit_laws.proofs.Listing.{all_weaker}
 use Rattle.state_laws.proofs.Members.{clash, in_map, filter_contains}
 use Rattle.keeper_core.specs.Calls.{HasListed}
-use Rattle.keeper_driver.specs.Drafts.{IsIdle}
+use Rattle.keeper_driver.specs.Drafts.{HasNoJob}
 use Rattle.keeper_driver.specs.Pinning.{IsPinning}
 
 -- another core is kept that has the same pins
@@ -52,7 +52,7 @@ pub known : (v : View) (n : ℕ) (spots : List Spot) → IsPinning v n spots →
 known v n spots is = subst (λ (k : ℕ). has k (numbers v.pins) ≡ true) is.has_number
     (subst (λ (ns : List ℕ). has is.pin.number ns ≡ true) (numbers-same v.pins is.core.pins is.keeps.pins) (in_map (λ (p : Pin). p.number) is.core.pins is.pin is.among))
 
-pub idle_again : (v : View) (n : ℕ) (spots : List Spot) → IsPinning v n spots → IsIdle v
+pub idle_again : (v : View) (n : ℕ) (spots : List Spot) → IsPinning v n spots → HasNoJob v
 idle_again v n spots is = record { core = is.core; keeps = is.keeps; no_job = is.no_job }
 
 -- the first spot of a pin
@@ -63,7 +63,7 @@ first_listed P (x ∷ xs) s some is all = subst P (sym is) all.0
 
 -- a pin
 
-pub begins : (v w : View) (is : IsIdle v) (n : ℕ) (spots : List Spot) (pin : Pin) → pin.number ≡ n → Keeps w (with_pins (is.core.pins ++ pin ∷ []) is.core.strays is.core) → ((K : Core) → Keeps w K → AllByRecursion (HasListed K.pins n) spots) → w.job ≡ v.job → IsPinning w n spots
+pub begins : (v w : View) (is : HasNoJob v) (n : ℕ) (spots : List Spot) (pin : Pin) → pin.number ≡ n → Keeps w (with_pins (is.core.pins ++ pin ∷ []) is.core.strays is.core) → ((K : Core) → Keeps w K → AllByRecursion (HasListed K.pins n) spots) → w.job ≡ v.job → IsPinning w n spots
 begins v w is n spots pin number keeps lists job = record {
   core = with_pins (is.core.pins ++ pin ∷ []) is.core.strays is.core;
   keeps = keeps;

@@ -1,4 +1,5 @@
--- What a keeper's events leave: no job, or an open one whose recipe may be committed once its rows are rows of a recipe.
+-- What a keeper's events leave: no job, or an open one whose recipe may be committed once its rows
+-- are rows of a recipe.
 use Rattle.std.specs.Prelude.{◌≡◌, ℕ, ◌+◌, List, map, length, Contains, ◌++◌, Some, None}
 use Rattle.std.specs.List.{AllByRecursion}
 use Rattle.vault_types.specs.declared.Row.{Row}
@@ -11,13 +12,13 @@ use Rattle.keeper_catalog.specs.View.{View, Keeps}
 use Rattle.keeper_driver.specs.declared.jobs.Draft.{Draft}
 
 -- no job is open
-pub record IsIdle (v : View) : Type 0 where
+pub record HasNoJob (v : View) : Type 0 where
   pub core : Core
   pub keeps : Keeps v core
   pub no_job : v.job ≡ None
 
 -- a job is open, and this is the index that it was lent
-pub record IsOpen (v : View) (d : Draft) : Type 0 where
+pub record HasOpenJob (v : View) (d : Draft) : Type 0 where
   pub core : Core
   pub keeps : Keeps v core
   pub job : Job
@@ -26,7 +27,7 @@ pub record IsOpen (v : View) (d : Draft) : Type 0 where
 
 -- the rows of the version so far are in kept containers or in those of the job, and name each of these
 pub record IsDraft (v : View) (d : Draft) : Type 0 where
-  pub opened : IsOpen v d
+  pub opened : HasOpenJob v d
   pub set : d.set ≡ opened.job.set
   pub version : d.version ≡ latest_of opened.core.state d.set + 1
   pub next : d.next ≡ next_of opened.core.state + length opened.job.containers

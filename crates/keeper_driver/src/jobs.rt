@@ -5,7 +5,7 @@ ghost use Rattle.blob_parts.specs.Recipes.{FitsRow, HasWidths};
 ghost use Rattle.vault_types.specs.Tables.{IsTable};
 ghost use Rattle.vault_types.specs.Blobs.{IsRecipe};
 ghost use Rattle.keeper_catalog.specs.View.{View as Views};
-ghost use Rattle.keeper_driver.specs.Drafts.{IsIdle, IsOpen, IsDraft, IsRecipeFor, row_in};
+ghost use Rattle.keeper_driver.specs.Drafts.{HasNoJob, HasOpenJob, IsDraft, IsRecipeFor, row_in};
 
 use crate::{row, sum};
 use blob_parts::has_rules;
@@ -33,9 +33,9 @@ pub struct Draft {
 
 /// Begins a job of a set. `Memory`, `StoreFault`: there is no job then.
 pub fn begin<S: Shelf>(alloc: Global, keeper: &mut Keeper<S>, set: Set) -> Result<Draft, Fault>
-    requires { IsIdle keeper.old }
+    requires { HasNoJob keeper.old }
     ensures ok { IfOk result (λ d. IsDraft keeper.new d) }
-    ensures err { OnErr result (IsIdle keeper.new) }
+    ensures err { OnErr result (HasNoJob keeper.new) }
 {
     let Begun {
         set,
@@ -127,7 +127,7 @@ pub fn add_container<S: Shelf>(
 ) -> Result<(), Fault>
     requires { IsDraft keeper.old draft.old }
     ensures ok { OnOk result (IsDraft keeper.new draft.new) }
-    ensures err { OnErr result (IsOpen keeper.new draft.new) }
+    ensures err { OnErr result (HasOpenJob keeper.new draft.new) }
 {
     let sealed = seal(alloc, draft.next, payload)?;
     add_rows(&mut draft.rows, sealed.table())?;
@@ -141,8 +141,8 @@ pub fn add_container<S: Shelf>(
 
 /// Ends a job without a commit.
 pub fn abort<S: Shelf>(keeper: &mut Keeper<S>, draft: Draft)
-    requires { IsOpen keeper.old draft }
-    ensures { IsIdle keeper.new }
+    requires { HasOpenJob keeper.old draft }
+    ensures { HasNoJob keeper.new }
 {
     let Draft { index, .. } = draft;
     keeper.abort(index);
@@ -198,7 +198,7 @@ fn checked(
 /// Commits a job. `Usage`, `Memory`, `StoreFault`: the job is over.
 pub fn commit<S: Shelf>(alloc: Global, keeper: &mut Keeper<S>, draft: Draft) -> Result<(), Fault>
     requires { IsDraft keeper.old draft }
-    ensures { IsIdle keeper.new }
+    ensures { HasNoJob keeper.new }
 {
     let Draft {
         set,
@@ -230,7 +230,7 @@ pub(crate) fn fill<S: Shelf>(
 ) -> Result<(), Fault>
     requires { IsDraft keeper.old draft.old }
     ensures ok { OnOk result (IsDraft keeper.new draft.new) }
-    ensures err { OnErr result (IsOpen keeper.new draft.new) }
+    ensures err { OnErr result (HasOpenJob keeper.new draft.new) }
 {
     for chunk in kept.chunks(4) {
         if let Err(fault) = add_kept(draft, chunk) {
@@ -252,8 +252,8 @@ pub fn back_up<S: Shelf>(
     kept: &[u8],
     payloads: &[&[u8]],
 ) -> Result<(), Fault>
-    requires { IsIdle keeper.old }
-    ensures { IsIdle keeper.new }
+    requires { HasNoJob keeper.old }
+    ensures { HasNoJob keeper.new }
 {
     let mut draft = begin(alloc, keeper, set)?;
     match fill(alloc, keeper, &mut draft, kept, payloads) {
@@ -267,8 +267,8 @@ pub fn back_up<S: Shelf>(
 
 /// Deletes the versions of a set through one. `LastVersion`, `StoreFault`.
 pub fn delete<S: Shelf>(keeper: &mut Keeper<S>, set: Set, through: Version) -> Result<Answer, Fault>
-    requires { IsIdle keeper.old }
-    ensures { IsIdle keeper.new }
+    requires { HasNoJob keeper.old }
+    ensures { HasNoJob keeper.new }
 {
     match keeper.delete_through(set, through) {
         Ok(answer) => Ok(answer),

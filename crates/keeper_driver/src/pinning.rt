@@ -1,7 +1,7 @@
 //! A keeper with one pin, and with two.
 ghost use Rattle.std.specs.Prelude.{◌≡◌, ℕ, List, None, IfOk};
 ghost use Rattle.vault_types.specs.declared.Spot.{Spot as Place};
-ghost use Rattle.keeper_driver.specs.Drafts.{IsIdle};
+ghost use Rattle.keeper_driver.specs.Drafts.{HasNoJob};
 ghost use Rattle.keeper_driver.specs.Pinning.{IsPinning};
 
 use crate::store::Store;
@@ -44,7 +44,8 @@ impl<S: Shelf> Model for Two<S> {
 
     ghost view = { λ s. tt };
 
-    ghost invariant = { λ s. IsPinning s.keeper s.first.no s.first.spots.items × IsPinning s.keeper s.second.no s.second.spots.items × (s.second.no ≢ s.first.no) };
+    ghost invariant = { λ s. IsPinning s.keeper s.first.no s.first.spots.items
+        × IsPinning s.keeper s.second.no s.second.spots.items × (s.second.no ≢ s.first.no) };
 }
 
 // Pins a version. Other pins stay, and have another number.
@@ -54,9 +55,10 @@ fn pin<S: Shelf>(
     set: Set,
     version: Version,
 ) -> Result<Pinned, Fault>
-    requires { IsIdle keeper.old }
+    requires { HasNoJob keeper.old }
     ensures pinned { IfOk result (λ p. IsPinning keeper.new p.no p.spots.items) }
-    ensures others { IfOk result (λ p. (n : ℕ) (spots : List Place) → IsPinning keeper.old n spots → IsPinning keeper.new n spots × (p.no ≡ n → ⊥)) }
+    ensures others { IfOk result (λ p. (n : ℕ) (spots : List Place) → IsPinning keeper.old n spots
+        → IsPinning keeper.new n spots × (p.no ≡ n → ⊥)) }
 {
     match keeper.pin(alloc, set, version) {
         Ok(pinned) => Ok(pinned),
@@ -89,8 +91,9 @@ fn load<S: Shelf>(alloc: Global, keeper: &mut Keeper<S>, pinned: &Pinned) -> Res
 // Ends a pin. Those with another number stay.
 fn release<S: Shelf>(keeper: &mut Keeper<S>, pinned: Pinned)
     requires { IsPinning keeper.old pinned.no pinned.spots.items }
-    ensures idle { IsIdle keeper.new }
-    ensures others { (n : ℕ) (spots : List Place) → (n ≡ pinned.no → ⊥) → IsPinning keeper.old n spots → IsPinning keeper.new n spots }
+    ensures idle { HasNoJob keeper.new }
+    ensures others { (n : ℕ) (spots : List Place) → (n ≡ pinned.no → ⊥) → IsPinning keeper.old n spots
+        → IsPinning keeper.new n spots }
 {
     let Pinned { no, .. } = pinned;
     keeper.release(no);

@@ -1,5 +1,5 @@
 //! A keeper between jobs, as tests call it: each call ends the job that it begins, so a call has no condition.
-ghost use Rattle.keeper_driver.specs.Drafts.{IsIdle};
+ghost use Rattle.keeper_driver.specs.Drafts.{HasNoJob};
 
 use crate::jobs::{abort, back_up, begin, delete, fill};
 use crate::sum;
@@ -17,13 +17,13 @@ pub struct Store<S: Shelf> {
 }
 
 impl<S: Shelf> Model for Store<S> {
-    ghost use Rattle.keeper_driver.specs.Drafts.{IsIdle};
+    ghost use Rattle.keeper_driver.specs.Drafts.{HasNoJob};
 
     ghost Value = { Unit {0} };
 
     ghost view = { λ s. tt };
 
-    ghost invariant = { λ s. IsIdle s.keeper };
+    ghost invariant = { λ s. HasNoJob s.keeper };
 }
 
 /// What a job is told at its beginning, and the container of a chunk in the index that it is lent.
@@ -32,14 +32,14 @@ pub type Look = (Version, Id, Option<Id>);
 impl<S: Shelf> Store<S> {
     /// A keeper that has no open job.
     pub fn new(keeper: Keeper<S>) -> Store<S>
-        requires { IsIdle keeper }
+        requires { HasNoJob keeper }
     {
         Store { keeper }
     }
 
     /// Its keeper.
     pub fn into_keeper(self) -> Keeper<S>
-        ensures { IsIdle result }
+        ensures { HasNoJob result }
     {
         let Store { keeper } = self;
         keeper

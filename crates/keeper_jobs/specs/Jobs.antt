@@ -63,14 +63,16 @@ is_of_container kind.Floor = false
 
 -- whether the name is the recipe's, or one of a container of the job
 abbrev pub is_committed : Name → ℕ → ℕ → Name → Bool
-is_committed recipe first next n = same_name n recipe || (is_of_container n.kind && (nat_le first n.number && nat_lt n.number next))
+is_committed recipe first next n =
+    same_name n recipe || (is_of_container n.kind && (nat_le first n.number && nat_lt n.number next))
 
 -- the strays that stay where these names are needed from now on
 abbrev pub uncommitted : Name → ℕ → ℕ → List Name → List Name
 uncommitted recipe first next strays = filter (λ n. not (is_committed recipe first next n)) strays
 
 -- a recipe that the open job may commit, and what is in memory then
-pub record Commits (m : Memo) (index : List (Fp × List ℕ)) (info : JobInfo) (r : Recipe) (K : Core) (job : Job) : Type 0 where
+pub record Commits (m : Memo) (index : List (Fp × List ℕ)) (info : JobInfo) (r : Recipe) (K : Core)
+    (job : Job) : Type 0 where
   pub core : IsCore K
   pub memo : IsMemoOf m K
   pub index_is : IsIndexOf index (map (λ c. c.table) K.state.containers)

@@ -1,1 +1,3 @@
 pub mod Jobs
+pub mod Puts
+pub mod Commits

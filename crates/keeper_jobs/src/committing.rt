@@ -14,6 +14,7 @@ ghost use Rattle.vault_traits.specs.Crash.{LeavesNowIfTold, LeavesOnlyIfTold};
 ghost use Rattle.commit_laws.specs.Laws.{AreStraysLeft};
 ghost use Rattle.state_laws.specs.Parts.{HeldIfTold};
 ghost use Rattle.keeper_catalog.specs.Catalog.{memo_of, table_at, IsMemoOf, HasRoom};
+ghost use Rattle.keeper_jobs.specs.Commits.{CommitsRecipe};
 ghost use Rattle.keeper_jobs.specs.Jobs.{tables_from, AreKeyed, Commits, version_by};
 
 use crate::indexing::{drop_tables, forget_tables};
@@ -29,10 +30,17 @@ use vault_types::Recipe;
 fn take_back(catalog: &mut Catalog, index: &mut Index, job: JobInfo)
     requires range { job.first ≤ job.next }
     requires keyed { AreKeyed catalog.old.tables.entries }
-    ensures index { (known : List TableOf) → AllByRecursion (λ t. t.id < job.first) known → IsIndexOf index.old (known ++ tables_from catalog.old.tables.entries job.first (job.next - job.first)) → IsIndexOf index.new known }
-    ensures gone { (id : ℕ) → table_at catalog.new.tables.entries id ≡ (if nat_le job.first id && nat_lt id job.next then None else table_at catalog.old.tables.entries id) }
+    ensures index { (known : List TableOf) → AllByRecursion (λ t. t.id < job.first) known
+        → IsIndexOf index.old
+        (known ++ tables_from catalog.old.tables.entries job.first (job.next - job.first))
+        → IsIndexOf index.new known }
+    ensures gone { (id : ℕ)
+        → table_at catalog.new.tables.entries id
+        ≡ (if nat_le job.first id && nat_lt id job.next then None
+        else table_at catalog.old.tables.entries id) }
     ensures fewer { length catalog.new.tables.entries ≤ length catalog.old.tables.entries }
-    ensures same { (catalog.new.sets ≡ catalog.old.sets) × (catalog.new.markers ≡ catalog.old.markers) × (catalog.new.strays ≡ catalog.old.strays) × (catalog.new.freed ≡ catalog.old.freed) }
+    ensures same { (catalog.new.sets ≡ catalog.old.sets) × (catalog.new.markers ≡ catalog.old.markers)
+        × (catalog.new.strays ≡ catalog.old.strays) × (catalog.new.freed ≡ catalog.old.freed) }
 {
     drop_tables(index, &catalog.tables, job.first, job.next);
     forget_tables(&mut catalog.tables, job.first, job.next);
@@ -51,42 +59,8 @@ pub fn commit_recipe<S: Shelf>(
 ) -> Result<(), Halt>
     requires can { (K : Core) × (j : Job) × Commits (memo_of catalog.old) index.old job recipe K j }
     requires room { HasRoom (memo_of catalog.old) }
-    ensures memo { OnOk result ((K : Core) (j : Job) → Commits (memo_of catalog.old) index.old job recipe K j → IsMemoOf (memo_of catalog.new) (after_commit (version_by K j recipe) j catalog.new.strays.items K)) }
-    ensures index { OnOk result ((K : Core) (j : Job) → Commits (memo_of catalog.old) index.old job recipe K j → IsIndexOf index.new (map (λ c. c.table) (committed (version_by K j recipe) j K.state).containers)) }
-    ensures held { OnOk result ((K : Core) (j : Job) → Commits (memo_of catalog.old) index.old job recipe K j → HeldIfTold (S.told shelf.old).blobs K
-        → HeldIfTold (S.told shelf.new).blobs (after_commit (version_by K j recipe) j catalog.new.strays.items K)) }
-
-    // The recipe's blob is its spelling, and no other blob changes.
-    ensures spelled { OnOk result ((K : Core) (j : Job) → Commits (memo_of catalog.old) index.old job recipe K j → Has (S.told shelf.new).blobs (recipe_name recipe.set recipe.version) (Some (recipe_bytes recipe))) }
-    ensures others { (K : Core) (j : Job) → Commits (memo_of catalog.old) index.old job recipe K j → (q : Named) → q ≢ recipe_name recipe.set recipe.version → blob_at (S.told shelf.new).blobs q ≡ blob_at (S.told shelf.old).blobs q }
-
-    // A refusal leaves the state, and the job is over.
-    ensures still { OnErr result ((K : Core) (j : Job) (waits : Pendings) → Commits (memo_of catalog.old) index.old job recipe K j → IsMemoOf (memo_of catalog.new) (after_refused None None catalog.new.strays.items waits K)) }
-    ensures same_index { OnErr result ((K : Core) (j : Job) → Commits (memo_of catalog.old) index.old job recipe K j → IsIndexOf index.new (map (λ c. c.table) K.state.containers)) }
-    ensures half { result ≡ Err Halt.Half → (K : Core) (j : Job) → Commits (memo_of catalog.old) index.old job recipe K j → HeldIfTold (S.told shelf.old).blobs K
-        → HeldIfTold (S.told shelf.new).blobs (after_refused (Some (commit_change (version_by K j recipe) j recipe K.state)) None catalog.new.strays.items (pending.FailedFor job.set) K) }
-    ensures before { (r : Refused) → result ≡ Err (Halt.Before r) → (K : Core) (j : Job) (waits : Pendings) → Commits (memo_of catalog.old) index.old job recipe K j → HeldIfTold (S.told shelf.old).blobs K
-        → HeldIfTold (S.told shelf.new).blobs (after_refused None None catalog.new.strays.items waits K) }
-    ensures tells { IsSome (S.told shelf.old).blobs → IsSome (S.told shelf.new).blobs }
-    ensures room { HasRoom (memo_of catalog.new) }
-
-    // The job's names are no strays any more where it is done; the recipe's name is one where its put was tried.
-    ensures left { OnOk result ((K : Core) (j : Job) → Commits (memo_of catalog.old) index.old job recipe K j → AreStraysLeft catalog.old.strays.items (recipe_name j.set recipe.version) j.containers catalog.new.strays.items) }
-    ensures as_before { (r : Refused) → result ≡ Err (Halt.Before r) → catalog.new.strays.items ≡ catalog.old.strays.items }
-    ensures tried { result ≡ Err Halt.Half → catalog.new.strays.items ≡ catalog.old.strays.items ++ recipe_name recipe.set recipe.version ∷ [] }
-
-    // A crash at any moment leaves the state from before or the one after; at `Ok` only the one after, and where the
-    // recipe's put was not tried only the one from before.
-    ensures any_moment { (K : Core) (j : Job) → Commits (memo_of catalog.old) index.old job recipe K j → HeldIfTold (S.told shelf.old).blobs K → LeavesNowIfTold (S.told shelf.old).history (IsNear K.state None)
-        → LeavesOnlyIfTold (S.told shelf.old).history (S.told shelf.new).history (IsNear K.state (Some (commit_change (version_by K j recipe) j recipe K.state))) }
-    ensures acknowledged { OnOk result ((K : Core) (j : Job) → Commits (memo_of catalog.old) index.old job recipe K j → HeldIfTold (S.told shelf.old).blobs K
-        → LeavesNowIfTold (S.told shelf.new).history (IsNear (committed (version_by K j recipe) j K.state) None)) }
-    ensures untried { (r : Refused) → result ≡ Err (Halt.Before r) → (K : Core) (j : Job) → Commits (memo_of catalog.old) index.old job recipe K j → LeavesNowIfTold (S.told shelf.old).history (IsNear K.state None)
-        → LeavesOnlyIfTold (S.told shelf.old).history (S.told shelf.new).history (IsNear K.state None) }
-    ensures gets { (S.told shelf.new).gets ≡ (S.told shelf.old).gets }
-    ensures later { (S.told shelf.old).faults ≤ (S.told shelf.new).faults }
-    ensures failed_half { result ≡ Err Halt.Half → Rose (S.told shelf.old).faults (S.told shelf.new).faults }
-    ensures failed_before { result ≡ Err (Halt.Before Refused.Failed) → Rose (S.told shelf.old).faults (S.told shelf.new).faults }
+    ensures { CommitsRecipe job recipe (memo_of catalog.old) (memo_of catalog.new) index.old index.new
+        (S.told shelf.old) (S.told shelf.new) result }
 {
     let Ok((ids, blob)) = prepare(alloc, catalog, index, job, &recipe) else {
         forget_tables(&mut catalog.tables, job.first, job.next);

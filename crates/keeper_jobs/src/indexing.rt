@@ -18,8 +18,10 @@ fn add_at(
     tables: &BTreeMap<Id, Table>,
     id: Id,
 ) -> Result<(), Memory>
-    ensures added { OnOk result ((known : List TableOf) → IsIndexOf index.old known → IsIndexOf index.new (known ++ tables_at tables.now.entries id)) }
-    ensures unchanged { OnErr result ((known : List TableOf) → IsIndexOf index.old known → IsIndexOf index.new known) }
+    ensures added { OnOk result ((known : List TableOf) → IsIndexOf index.old known
+        → IsIndexOf index.new (known ++ tables_at tables.now.entries id)) }
+    ensures unchanged { OnErr result ((known : List TableOf) → IsIndexOf index.old known
+        → IsIndexOf index.new known) }
 {
     let Some(table) = tables.get(&id) else {
         return Ok(());
@@ -37,8 +39,10 @@ pub fn add_tables(
 ) -> Result<(), Memory>
     requires range { first ≤ next }
     requires keyed { AreKeyed tables.now.entries }
-    ensures added { OnOk result ((known : List TableOf) → IsIndexOf index.old known → IsIndexOf index.new (known ++ tables_from tables.now.entries first (next - first))) }
-    ensures unchanged { OnErr result ((known : List TableOf) → AllByRecursion (λ t. t.id < first) known → IsIndexOf index.old known → IsIndexOf index.new known) }
+    ensures added { OnOk result ((known : List TableOf) → IsIndexOf index.old known
+        → IsIndexOf index.new (known ++ tables_from tables.now.entries first (next - first))) }
+    ensures unchanged { OnErr result ((known : List TableOf) → AllByRecursion (λ t. t.id < first) known
+        → IsIndexOf index.old known → IsIndexOf index.new known) }
 {
     for id in first..next {
         let Ok(()) = add_at(alloc, index, tables, id) else {
@@ -52,7 +56,9 @@ pub fn add_tables(
 // Takes the table at an id out of the index, if there is one.
 fn drop_at(index: &mut Index, tables: &BTreeMap<Id, Table>, id: Id)
     requires { AreKeyed tables.now.entries }
-    ensures { (known : List TableOf) (low n : ℕ) → AllByRecursion (λ t. t.id < low) known → low ≤ id → IsIndexOf index.old (known ++ tables_from tables.now.entries id (suc n)) → IsIndexOf index.new (known ++ tables_from tables.now.entries (id + 1) n) }
+    ensures { (known : List TableOf) (low n : ℕ) → AllByRecursion (λ t. t.id < low) known → low ≤ id
+        → IsIndexOf index.old (known ++ tables_from tables.now.entries id (suc n))
+        → IsIndexOf index.new (known ++ tables_from tables.now.entries (id + 1) n) }
 {
     let Some(table) = tables.get(&id) else {
         return;
@@ -64,7 +70,9 @@ fn drop_at(index: &mut Index, tables: &BTreeMap<Id, Table>, id: Id)
 pub fn drop_tables(index: &mut Index, tables: &BTreeMap<Id, Table>, first: Id, next: Id)
     requires range { first ≤ next }
     requires keyed { AreKeyed tables.now.entries }
-    ensures dropped { (known : List TableOf) → AllByRecursion (λ t. t.id < first) known → IsIndexOf index.old (known ++ tables_from tables.now.entries first (next - first)) → IsIndexOf index.new known }
+    ensures dropped { (known : List TableOf) → AllByRecursion (λ t. t.id < first) known
+        → IsIndexOf index.old (known ++ tables_from tables.now.entries first (next - first))
+        → IsIndexOf index.new known }
 {
     for id in first..next {
         drop_at(index, tables, id);
@@ -74,7 +82,9 @@ pub fn drop_tables(index: &mut Index, tables: &BTreeMap<Id, Table>, first: Id, n
 /// Lets the tables of these ids go from memory. Takes no memory.
 pub fn forget_tables(tables: &mut BTreeMap<Id, Table>, first: Id, next: Id)
     requires range { first ≤ next }
-    ensures gone { (id : ℕ) → table_at tables.new.entries id ≡ (if nat_le first id && nat_lt id next then None else table_at tables.old.entries id) }
+    ensures gone { (id : ℕ)
+        → table_at tables.new.entries id
+        ≡ (if nat_le first id && nat_lt id next then None else table_at tables.old.entries id) }
     ensures fewer { length tables.new.entries ≤ length tables.old.entries }
 {
     for id in first..next {

@@ -34,16 +34,21 @@ pub fn mend_for<S: Shelf>(
 ) -> Result<(), Fault>
     requires in_range { set < length sets.now }
     requires seen { (K : Core) × Sees sets.now pending.old K }
-    ensures held { (K : Core) → Sees sets.now pending.old K → HeldIfTold (S.told shelf.old).blobs K → HeldIfTold (S.told shelf.new).blobs K }
-    ensures mended { OnOk result ((K : Core) → Sees sets.now pending.old K → HeldIfTold (S.told shelf.old).blobs K → HeldIfTold (S.told shelf.new).blobs (without_other K)) }
+    ensures held { (K : Core) → Sees sets.now pending.old K → HeldIfTold (S.told shelf.old).blobs K
+        → HeldIfTold (S.told shelf.new).blobs K }
+    ensures mended { OnOk result ((K : Core) → Sees sets.now pending.old K
+        → HeldIfTold (S.told shelf.old).blobs K → HeldIfTold (S.told shelf.new).blobs (without_other K)) }
     ensures tells { IsSome (S.told shelf.old).blobs → IsSome (S.told shelf.new).blobs }
     ensures recipes { (K : Core) → Sees sets.now pending.old K → (s v : ℕ) → v ≤ latest_of K.state s
-        → blob_at (S.told shelf.new).blobs (recipe_name s v) ≡ blob_at (S.told shelf.old).blobs (recipe_name s v) }
+        → blob_at (S.told shelf.new).blobs (recipe_name s v)
+        ≡ blob_at (S.told shelf.old).blobs (recipe_name s v) }
 
     // A crash at any moment leaves what it could leave before; behind a mending that was due and succeeded only the state.
-    ensures any_moment { (K : Core) → Sees sets.now pending.old K → LeavesNowIfTold (S.told shelf.old).history (IsNear K.state K.other)
+    ensures any_moment { (K : Core) → Sees sets.now pending.old K
+        → LeavesNowIfTold (S.told shelf.old).history (IsNear K.state K.other)
         → LeavesOnlyIfTold (S.told shelf.old).history (S.told shelf.new).history (IsNear K.state K.other) }
-    ensures acknowledged { OnOk result (pending.old ≢ Pending.Not → (K : Core) → Sees sets.now pending.old K → HeldIfTold (S.told shelf.old).blobs K
+    ensures acknowledged { OnOk result (pending.old ≢ Pending.Not → (K : Core) → Sees sets.now pending.old K
+        → HeldIfTold (S.told shelf.old).blobs K
         → LeavesNowIfTold (S.told shelf.new).history (IsNear K.state None)) }
     ensures over { OnOk result (pending.new ≡ Pending.Not) }
     ensures waits { OnErr result (pending.new ≡ pending.old) }

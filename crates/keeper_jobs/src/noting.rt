@@ -23,7 +23,8 @@ use vault_types::{Id, Kind, Memory, Name, Recipe, Set, Version};
 
 // Room for the ids that a deletion may free once these are named too.
 fn make_spare(catalog: &mut Catalog, more: usize) -> Result<(), Memory>
-    ensures same { (catalog.new.sets ≡ catalog.old.sets) × (catalog.new.tables ≡ catalog.old.tables) × (catalog.new.markers ≡ catalog.old.markers) × (catalog.new.strays ≡ catalog.old.strays) }
+    ensures same { (catalog.new.sets ≡ catalog.old.sets) × (catalog.new.tables ≡ catalog.old.tables)
+        × (catalog.new.markers ≡ catalog.old.markers) × (catalog.new.strays ≡ catalog.old.strays) }
     ensures made { IfOk result (λ _. length catalog.new.markers.ids + more ≤ vec_capacity catalog.new.freed) }
     ensures room { vec_capacity catalog.old.freed ≤ vec_capacity catalog.new.freed }
 {
@@ -49,15 +50,24 @@ pub fn prepare(
     requires keyed { AreKeyed catalog.old.tables.entries }
     ensures ids { IfOk result (λ r. r.0.items ≡ set_of (map (λ q. q.id) recipe.now.rows)) }
     ensures blob { IfOk result (λ r. r.1.items ≡ recipe_bytes recipe.now) }
-    ensures strays { IfOk result (λ _. catalog.new.strays.items ≡ catalog.old.strays.items ++ recipe_name recipe.now.set recipe.now.version ∷ []) }
-    ensures same { (catalog.new.sets.items ≡ catalog.old.sets.items) × (catalog.new.tables.entries ≡ catalog.old.tables.entries) }
-    ensures markers { (marks : List Mark) → AreMarkersOfSets catalog.old.markers marks → AreMarkersOfSets catalog.new.markers marks }
+    ensures strays { IfOk result
+        (λ _.
+        catalog.new.strays.items
+        ≡ catalog.old.strays.items ++ recipe_name recipe.now.set recipe.now.version ∷ []) }
+    ensures same { (catalog.new.sets.items ≡ catalog.old.sets.items)
+        × (catalog.new.tables.entries ≡ catalog.old.tables.entries) }
+    ensures markers { (marks : List Mark) → AreMarkersOfSets catalog.old.markers marks
+        → AreMarkersOfSets catalog.new.markers marks }
     ensures places { IfOk result (λ r. length r.0.items ≤ catalog.new.markers.room) }
-    ensures spare { IfOk result (λ r. length catalog.new.markers.ids + length r.0.items ≤ vec_capacity catalog.new.freed) }
+    ensures spare { IfOk result
+        (λ r. length catalog.new.markers.ids + length r.0.items ≤ vec_capacity catalog.new.freed) }
     ensures room { HasRoom (memo_of catalog.new) }
     ensures as_before { OnErr result (catalog.new.strays.items ≡ catalog.old.strays.items) }
-    ensures added { IfOk result (λ _. (known : List TableOf) → IsIndexOf index.old known → IsIndexOf index.new (known ++ tables_from catalog.old.tables.entries job.first (job.next - job.first))) }
-    ensures unchanged { OnErr result ((known : List TableOf) → AllByRecursion (λ t. t.id < job.first) known → IsIndexOf index.old known → IsIndexOf index.new known) }
+    ensures added { IfOk result (λ _. (known : List TableOf) → IsIndexOf index.old known
+        → IsIndexOf index.new
+        (known ++ tables_from catalog.old.tables.entries job.first (job.next - job.first))) }
+    ensures unchanged { OnErr result ((known : List TableOf) → AllByRecursion (λ t. t.id < job.first) known
+        → IsIndexOf index.old known → IsIndexOf index.new known) }
 {
     let ids = distinct_ids(alloc, recipe.rows.as_slice())?;
     catalog.markers.reserve(ids.len())?;
@@ -100,11 +110,21 @@ fn drop_committed(strays: &mut Vec<Name>, recipe: Name, first: Id, next: Id)
 pub fn note_commit(catalog: &mut Catalog, job: JobInfo, recipe: Recipe, ids: &[Id])
     requires in_range { job.set < length catalog.old.sets.items }
     requires places { length ids.now ≤ catalog.old.markers.room }
-    ensures sets { catalog.new.sets.items ≡ slice_set catalog.old.sets.items job.set (record { floor = (slice_index_or catalog.old.sets.items job.set (set_info empty_dataset)).floor; latest = recipe.version; next = recipe.next; sparse = recipe.sparse }) }
-    ensures strays { catalog.new.strays.items ≡ uncommitted (recipe_name job.set recipe.version) job.first job.next catalog.old.strays.items }
-    ensures markers { (marks : List Mark) → AreMarkersOfSets catalog.old.markers marks → AreMarkersOfSets catalog.new.markers (marks ++ marks_of job.set recipe.version ids.now) }
+    ensures sets { catalog.new.sets.items
+        ≡ slice_set catalog.old.sets.items job.set
+        (record {
+          floor = (slice_index_or catalog.old.sets.items job.set (set_info empty_dataset)).floor;
+          latest = recipe.version;
+          next = recipe.next;
+          sparse = recipe.sparse;
+        }) }
+    ensures strays { catalog.new.strays.items
+        ≡ uncommitted (recipe_name job.set recipe.version) job.first job.next catalog.old.strays.items }
+    ensures markers { (marks : List Mark) → AreMarkersOfSets catalog.old.markers marks
+        → AreMarkersOfSets catalog.new.markers (marks ++ marks_of job.set recipe.version ids.now) }
     ensures same { catalog.new.tables.entries ≡ catalog.old.tables.entries }
-    ensures room { (vec_capacity catalog.new.strays ≡ vec_capacity catalog.old.strays) × (vec_capacity catalog.new.freed ≡ vec_capacity catalog.old.freed) }
+    ensures room { (vec_capacity catalog.new.strays ≡ vec_capacity catalog.old.strays)
+        × (vec_capacity catalog.new.freed ≡ vec_capacity catalog.old.freed) }
 {
     let name = Name::recipe(job.set, recipe.version);
     let Recipe {

@@ -6,7 +6,8 @@ ghost use Rattle.vault_traits.specs.Crash.{LeavesNowIfTold, LeavesOnlyIfTold};
 ghost use Rattle.vault_traits.specs.Causes.{HasCauses, IsUndamaged};
 ghost use Rattle.state_laws.specs.Parts.{HeldIfTold, with_strays};
 ghost use Rattle.keeper_catalog.specs.Catalog.{memo_of, table_at, HasRoom};
-ghost use Rattle.keeper_jobs.specs.Jobs.{names_of, Puts};
+ghost use Rattle.keeper_jobs.specs.Jobs.{names_of};
+ghost use Rattle.keeper_jobs.specs.Puts.{PutsSealed};
 
 use crate::room::make_room;
 use container_store::Sealed;
@@ -22,12 +23,15 @@ fn note_container(alloc: Global, catalog: &mut Catalog, id: Id) -> Result<(), Me
     requires sets { length catalog.old.sets.items ≤ 256 }
     requires room { HasRoom (memo_of catalog.old) }
     requires fresh { table_at catalog.old.tables.entries id ≡ None }
-    ensures strays { (catalog.new.strays.items ≡ catalog.old.strays.items) ⊎ (catalog.new.strays.items ≡ catalog.old.strays.items ++ names_of id) }
+    ensures strays { (catalog.new.strays.items ≡ catalog.old.strays.items)
+        ⊎ (catalog.new.strays.items ≡ catalog.old.strays.items ++ names_of id) }
     ensures noted { OnOk result (catalog.new.strays.items ≡ catalog.old.strays.items ++ names_of id) }
     ensures taken { OnOk result (IsSome (table_at catalog.new.tables.entries id)) }
-    ensures tables { (k : ℕ) → nat_eq k id ≡ false → table_at catalog.new.tables.entries k ≡ table_at catalog.old.tables.entries k }
+    ensures tables { (k : ℕ) → nat_eq k id ≡ false
+        → table_at catalog.new.tables.entries k ≡ table_at catalog.old.tables.entries k }
     ensures none { OnErr result (table_at catalog.new.tables.entries id ≡ None) }
-    ensures same { (catalog.new.sets.items ≡ catalog.old.sets.items) × (catalog.new.markers ≡ catalog.old.markers) }
+    ensures same { (catalog.new.sets.items ≡ catalog.old.sets.items)
+        × (catalog.new.markers ≡ catalog.old.markers) }
     ensures room { HasRoom (memo_of catalog.new) }
 {
     make_room(catalog, 4)?;
@@ -62,23 +66,8 @@ pub fn put_sealed<S: Shelf>(
     requires sets { length catalog.old.sets.items ≤ 256 }
     requires room { HasRoom (memo_of catalog.old) }
     requires fresh { table_at catalog.old.tables.entries sealed.table.id ≡ None }
-    ensures done { OnOk result (job.new ≡ record job.old { next = job.old.next + 1 }) }
-    ensures refused { OnErr result (job.new ≡ job.old) }
-    ensures tables { OnOk result ((id : ℕ) → table_at catalog.new.tables.entries id ≡ (if nat_eq id sealed.table.id then Some sealed.table else table_at catalog.old.tables.entries id)) }
-    ensures as_before { OnErr result ((id : ℕ) → table_at catalog.new.tables.entries id ≡ table_at catalog.old.tables.entries id) }
-    ensures strays { (catalog.new.strays.items ≡ catalog.old.strays.items) ⊎ (catalog.new.strays.items ≡ catalog.old.strays.items ++ names_of sealed.table.id) }
-    ensures same { (catalog.new.sets.items ≡ catalog.old.sets.items) × (catalog.new.markers ≡ catalog.old.markers) }
-    ensures room { HasRoom (memo_of catalog.new) }
-    ensures there { OnOk result (IfSome (S.told shelf.new).blobs (λ m. HasContainer m sealed)) }
-    ensures tells { IsSome (S.told shelf.old).blobs → IsSome (S.told shelf.new).blobs }
-    ensures recipes { (s v : ℕ) → blob_at (S.told shelf.new).blobs (recipe_name s v) ≡ blob_at (S.told shelf.old).blobs (recipe_name s v) }
-    ensures held { (K : Core) → Puts K catalog.old.strays.items sealed.table.id → HeldIfTold (S.told shelf.old).blobs K → HeldIfTold (S.told shelf.new).blobs (with_strays catalog.new.strays.items K) }
-
-    // A crash at any moment leaves what it could leave before.
-    ensures any_moment { (K : Core) → Puts K catalog.old.strays.items sealed.table.id → LeavesNowIfTold (S.told shelf.old).history (IsNear K.state K.other)
-        → LeavesOnlyIfTold (S.told shelf.old).history (S.told shelf.new).history (IsNear K.state K.other) }
-    ensures gets { (S.told shelf.new).gets ≡ (S.told shelf.old).gets }
-    ensures causes { HasCauses (S.told shelf.old).faults (S.told shelf.new).faults IsUndamaged result }
+    ensures { PutsSealed sealed job.old job.new (memo_of catalog.old) (memo_of catalog.new)
+        (S.told shelf.old) (S.told shelf.new) result }
 {
     let id = sealed.table().id;
     note_container(alloc, catalog, id)?;

@@ -21,8 +21,12 @@ fn version_count(sets: &[SetInfo]) -> u64
 /// is `Memory`; nothing else changes, also then.
 pub fn make_room(catalog: &mut Catalog, more: usize) -> Result<(), Memory>
     requires { length catalog.old.sets.items ≤ 256 }
-    ensures made { OnOk result (length catalog.new.strays.items + (2 * length catalog.new.tables.entries + versions_in catalog.new.sets.items) + more ≤ vec_capacity catalog.new.strays) }
-    ensures same { memo_of catalog.new ≡ record (memo_of catalog.old) { room = vec_capacity catalog.new.strays } }
+    ensures made { OnOk result
+        (length catalog.new.strays.items
+        + (2 * length catalog.new.tables.entries + versions_in catalog.new.sets.items) + more
+        ≤ vec_capacity catalog.new.strays) }
+    ensures same { memo_of catalog.new
+        ≡ record (memo_of catalog.old) { room = vec_capacity catalog.new.strays } }
     ensures room { vec_capacity catalog.old.strays ≤ vec_capacity catalog.new.strays }
 {
     let versions = usize::try_from(version_count(&catalog.sets)).map_err(|_| Memory)?;

@@ -1,41 +1,23 @@
 -- What the first bad place of a shelf is.
-use Rattle.std.proofs.Common.{◌≡◌, ◌≢◌, ◌⊎◌, inl, inr, ⊎_elim, ℕ, zero, suc, ◌+◌, ◌-◌, ◌*◌, ◌^◌, ◌<◌, ◌≤◌, Bool, true, false, cond, List, [], ◌∷◌, ◌++◌, map, flat_map, length, get_or, Option, Some, None, refl, sym, ap, subst, ◌∙◌, arith}
-use Rattle.std.specs.Prelude.{Contains, IsSome, IfSome, MatchOption, option_map, unwrap_or, slice_get}
-use Rattle.std.specs.List.{last_or}
+use Rattle.std.proofs.Common.{◌≡◌, inr, ⊎_elim, ℕ, suc, ◌+◌, ◌-◌, ◌<◌, ◌≤◌, true, false, List, [], ◌∷◌, length, Option, Some, None, refl, sym, ap, subst, ◌∙◌, arith}
+use Rattle.std.specs.Prelude.{IsSome, MatchOption, option_map, unwrap_or, slice_get}
 use Rattle.std.specs.FinMap as fin
-use Rattle.std.proofs.lemmas.Bool.{cases_lt, cases_eq}
-use Rattle.std.proofs.lemmas.List.{append-nil}
+use Rattle.std.proofs.lemmas.Bool.{cases_lt}
 use Rattle.vault_types.specs.declared.Kind.{Kind}
 use Rattle.vault_types.specs.declared.Kind.TheVariants as kind
 use Rattle.vault_types.specs.declared.Why.{Why}
 use Rattle.vault_types.specs.declared.Why.TheVariants as why
 use Rattle.vault_types.specs.declared.Recipe.{Recipe}
 use Rattle.vault_types.specs.Blobs.{SpellsFloor, IsVersion}
-use Rattle.vault_types.specs.Shelf.{Blobs, recipe_name, floor_name}
-use Rattle.vault_types.specs.BlobDamage.{IsFloorIn, IsRecipeWhy}
-use Rattle.recipe_store.proofs.Apart.{recipes_apart, floors_apart}
+use Rattle.vault_types.specs.Shelf.{Blobs, recipe_name}
+use Rattle.vault_types.specs.BlobDamage.{IsFloorIn}
 use Rattle.keeper_catalog.specs.declared.SetInfo.{SetInfo}
 use Rattle.keeper_open.specs.declared.notes.Notes.{Notes}
-use Rattle.vault_types.specs.FirstDamage.{ReadsRecipe, IsListedFrom, IsDueFrom, IsDue, IsAfter, IsGoodRecipe, IsBefore, FloorsBefore, RecipesBefore, IsLower, IsRecipeFirst, IsFirstDamage, IsDamageOf}
-use Rattle.keeper_open.specs.Reading.{SetRead, AreFloors, AreRead, IsLastDue, IsSetRead, IsVersionWhy, IsVersionDamage, IsSetDamage, IsSetFirst, AreSets, last_next}
-use Rattle.keeper_open.proofs.Gathering.{AreFirstSets, floors_before, some_at, at_below, recipe_read, rising_at, last_at, set_at}
-
--- what is read is one
-
-floors_same : (s f g : ℕ) (o p : Option (List ℕ)) → o ≡ p → MatchOption o (f ≡ 1) (λ bytes. SpellsFloor s bytes f) → MatchOption p (g ≡ 1) (λ bytes. SpellsFloor s bytes g) → f ≡ g
-floors_same s f g None None e one two = one ∙ sym two
-floors_same s f g None (Some b) e one two = absurd cc
-floors_same s f g (Some a) None e one two = absurd cc
-floors_same s f g (Some a) (Some b) e one two = let same : a ≡ b = cc in (floors_apart s f g a b [] one two (append-nil a ∙ same)).0
-
-pub floor_unique : (m : Blobs) (s f g : ℕ) → IsFloorIn (Some m) s f → IsFloorIn (Some m) s g → f ≡ g
-floor_unique m s f g one two = floors_same s f g one.0 two.0 (sym one.1 ∙ two.1) one.2 two.2
-
-pub recipe_unique : (m : Blobs) (s v : ℕ) (r q : Recipe) → ReadsRecipe (Some m) s v r → ReadsRecipe (Some m) s v q → r ≡ q
-recipe_unique m s v r q one two =
-    let found : ◌≡◌ {A = Option (List ℕ)} (Some one.0) (Some two.0) = sym one.1 ∙ two.1 in
-    let same : one.0 ≡ two.0 = cc in
-    (recipes_apart s v r q one.0 two.0 [] one.2 two.2 (append-nil one.0 ∙ same)).0
+use Rattle.vault_types.specs.FirstDamage.{ReadsRecipe, IsDueFrom, IsRecipeDue, IsGoodRecipe, FloorsBefore, RecipesBefore, IsLower, IsRecipeFirst, IsFirstDamage, IsDamageOf}
+use Rattle.keeper_open.specs.Reading.{SetRead, AreFloors, AreReadInOrder, IsLastDue, IsSetRead, IsVersionWhy, IsSetDamage, IsSetFirst, AreSets, last_next}
+use Rattle.keeper_open.proofs.Gathering.{AreFirstSets, floors_before, recipe_read, rising_at, last_at, set_at}
+use Rattle.damage_laws.proofs.Elements.{some_at}
+use Rattle.damage_laws.proofs.Unique.{floor_unique, recipe_unique}
 
 -- a floor is a version
 pub floor_version : (told : Option Blobs) (s f : ℕ) → IsFloorIn told s f → IsVersion f
@@ -46,18 +28,18 @@ floor_version told s f is = by_found is.0 is.2
     by_found (Some bytes) spells = spells.rules
 
 -- the recipes that were read are good
-module _ (m : Blobs) (s floor : ℕ) (rs : List Recipe) (is : IsFloorIn (Some m) s floor) (read : AreRead (Some m) s floor rs) where
-  due_from : (v : ℕ) → IsDue m s v → floor ≤ v
+module _ (m : Blobs) (s floor : ℕ) (rs : List Recipe) (is : IsFloorIn (Some m) s floor) (read : AreReadInOrder (Some m) s floor rs) where
+  due_from : (v : ℕ) → IsRecipeDue m s v → floor ≤ v
   due_from v due = let same = floor_unique m s floor due.floor is due.reads in let low = due.from in omega (arith, same, low)
 
   -- the recipe of a version that is due
-  pub due_recipe : (v : ℕ) → IsDue m s v → v < floor + length rs → (r : Recipe) × (slice_get rs (v - floor) ≡ Some r) × ReadsRecipe (Some m) s v r
+  pub due_recipe : (v : ℕ) → IsRecipeDue m s v → v < floor + length rs → (r : Recipe) × (slice_get rs (v - floor) ≡ Some r) × ReadsRecipe (Some m) s v r
   due_recipe v due below =
       let from = due_from v due in
       let found = some_at rs (v - floor) (omega (arith, from, below)) in
       (found.0, found.1, subst (λ (u : ℕ). ReadsRecipe (Some m) s u found.0) (let e : floor + (v - floor) ≡ v = omega (arith, from) in e) (recipe_read (Some m) s floor rs (v - floor) found.0 read.recipes found.1))
 
-  pub good_recipe : (v : ℕ) → IsDue m s v → v < floor + length rs → IsGoodRecipe m s v
+  pub good_recipe : (v : ℕ) → IsRecipeDue m s v → v < floor + length rs → IsGoodRecipe m s v
   good_recipe v due below =
       let found = due_recipe v due below in
       record {
@@ -91,7 +73,7 @@ module _ (m : Blobs) (ds : List SetRead) (all : AreSets (Some m) 0 ds) where
       let found = some_at ds t below in
       (found.0, found.1, subst (λ (u : ℕ). IsSetRead (Some m) u found.0.info found.0.recipes) (let e : 0 + t ≡ t = omega arith in e) (set_at (Some m) 0 ds t found.0 all found.1))
 
-  pub due_below : (t w : ℕ) (d : SetRead) → IsSetRead (Some m) t d.info d.recipes → IsDue m t w → (d.info.floor ≤ w) × (w < d.info.floor + length d.recipes)
+  pub due_below : (t w : ℕ) (d : SetRead) → IsSetRead (Some m) t d.info d.recipes → IsRecipeDue m t w → (d.info.floor ≤ w) × (w < d.info.floor + length d.recipes)
   due_below t w d read due =
       let same = floor_unique m t due.floor d.info.floor due.reads read.floor in
       let from : d.info.floor ≤ w = (let low = due.from in omega (arith, low, same)) in
@@ -99,30 +81,30 @@ module _ (m : Blobs) (ds : List SetRead) (all : AreSets (Some m) 0 ds) where
       let count = read.count in
       (from, omega (arith, within, count))
 
-  pub due_in : (t w : ℕ) → t < length ds → IsDue m t w → (d : SetRead) × (slice_get ds t ≡ Some d) × IsSetRead (Some m) t d.info d.recipes × (d.info.floor ≤ w) × (w < d.info.floor + length d.recipes)
+  pub due_in : (t w : ℕ) → t < length ds → IsRecipeDue m t w → (d : SetRead) × (slice_get ds t ≡ Some d) × IsSetRead (Some m) t d.info d.recipes × (d.info.floor ≤ w) × (w < d.info.floor + length d.recipes)
   due_in t w below due =
       let found = set_of_due t w below in
       let bounds = due_below t w found.0 found.2 due in
       (found.0, found.1, found.2, bounds.0, bounds.1)
 
-  pub sets_good : (t w : ℕ) → t < length ds → IsDue m t w → IsGoodRecipe m t w
+  pub sets_good : (t w : ℕ) → t < length ds → IsRecipeDue m t w → IsGoodRecipe m t w
   sets_good t w below due =
       let found = due_in t w below due in
       good_recipe m t found.0.info.floor found.0.recipes found.2.floor found.2.read w due found.4
 
   -- the first bad recipe
   module _ (fs : List ℕ) (s floor : ℕ) (floors : AreFloors (Some m) 0 fs) (count : length fs ≡ 256) (number : length ds ≡ s) (low : s < 256) (is : IsFloorIn (Some m) s floor) where
-    recipes_before : (rs : List Recipe) → AreRead (Some m) s floor rs → RecipesBefore m s (floor + length rs)
+    recipes_before : (rs : List Recipe) → AreReadInOrder (Some m) s floor rs → RecipesBefore m s (floor + length rs)
     recipes_before rs read t w before due = ⊎_elim
         (λ earlier. sets_good t w (omega (arith, earlier, number)) due)
-        (λ here. subst (λ (u : ℕ). IsGoodRecipe m u w) (sym here.0) (good_recipe m s floor rs is read w (subst (λ (u : ℕ). IsDue m u w) here.0 due) here.1))
+        (λ here. subst (λ (u : ℕ). IsGoodRecipe m u w) (sym here.0) (good_recipe m s floor rs is read w (subst (λ (u : ℕ). IsRecipeDue m u w) here.0 due) here.1))
         before
 
     all_floors : FloorsBefore m 256
     all_floors = floors_before m fs 256 floors (omega (arith, count))
 
     module _ (rs : List Recipe) (n : ℕ) (w : Why) (first : IsSetFirst m s floor rs n w) where
-      place_due : IsDue m s (floor + length rs)
+      place_due : IsRecipeDue m s (floor + length rs)
       place_due = record { set = low; floor = floor; reads = is; from = omega arith; last = first.last; due = first.due }
 
       low_is : (before found : ℕ) → IsVersionWhy (Some m) s (floor + length rs) (last_next rs) (why.Lower before found) → IsLower m s (floor + length rs) before found
@@ -132,7 +114,7 @@ module _ (m : Blobs) (ds : List SetRead) (all : AreSets (Some m) 0 ds) where
           let next : last_next rs ≡ last.0.next = ap (λ (o : Option Recipe). unwrap_or (option_map (λ r. r.next) o) 1) last.2 in
           let reads : ReadsRecipe (Some m) s (floor + (length rs - 1)) last.0 = recipe_read (Some m) s floor rs (length rs - 1) last.0 first.read.recipes last.1 in
           let bad_last = first.last in
-          let due : IsDue m s (floor + (length rs - 1)) = record { set = low; floor = floor; reads = is; from = omega arith; last = omega (arith, bad_last); due = due_before some first.due } in
+          let due : IsRecipeDue m s (floor + (length rs - 1)) = record { set = low; floor = floor; reads = is; from = omega arith; last = omega (arith, bad_last); due = due_before some first.due } in
           (floor + (length rs - 1), last.0, bad.1.0, omega (arith, some), due, reads, bad.1.1, sym next ∙ sym bad.0, bad.1.2, bad.1.3))
           (λ none.
           let empty : last_next rs ≡ 1 = nothing rs none in

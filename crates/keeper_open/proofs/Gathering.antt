@@ -1,16 +1,15 @@
 -- What is read of a shelf, step by step.
-use Rattle.std.proofs.Common.{◌≡◌, ◌≢◌, ◌⊎◌, inl, inr, ⊎_elim, ℕ, zero, suc, ◌+◌, ◌-◌, ◌*◌, ◌^◌, ◌<◌, ◌≤◌, min, max, Bool, true, false, cond, ◌&&◌, ◌||◌, List, [], ◌∷◌, ◌++◌, map, flat_map, length, take, get_or, Option, Some, None, Result, Ok, Err, refl, sym, ap, subst, ◌∙◌, arith, length-append}
-use Rattle.std.specs.Prelude.{Contains, IsSome, IfSome, IfErr, IsErrAnd, find, ◌==◌, option_map, unwrap_or, nat_eq, slice_get}
+use Rattle.std.proofs.Common.{◌≡◌, ⊎_elim, ℕ, zero, suc, ◌+◌, ◌-◌, ◌*◌, ◌^◌, ◌<◌, ◌≤◌, Bool, true, false, cond, ◌||◌, List, [], ◌∷◌, ◌++◌, map, length, take, get_or, Option, Some, None, Result, Ok, Err, refl, sym, ap, subst, ◌∙◌, arith, length-append}
+use Rattle.std.specs.Prelude.{Contains, IfSome, IsErrAnd, find, ◌==◌, option_map, unwrap_or, slice_get}
 use Rattle.std.specs.Option.{option_map_or}
-use Rattle.std.specs.List.{AllByRecursion, last_or, list_any}
+use Rattle.std.specs.List.{AllByRecursion, last_or}
 use Rattle.std.specs.Map.{lookup}
 use Rattle.std.specs.Ordering.{nat_cmp}
 use Rattle.std.specs.BTreeMap.{is_at}
-use Rattle.std.proofs.lemmas.Bool.{cases_lt, cases_eq}
 use Rattle.std.proofs.lemmas.Bool.Decides.{nat_tests}
-use Rattle.std.proofs.lemmas.List.{append_assoc, append-nil, map-append, take_more, take_all}
+use Rattle.std.proofs.lemmas.List.{append_assoc, append-nil, map-append, take_more}
 use Rattle.std.proofs.lemmas.List.Folds.{list_any-append}
-use Rattle.std.proofs.lemmas.List.Elements.{Contains-append_left, Contains-append_right, Contains-append_cases, Contains-push, Contains-push_cases, Contains-get_or}
+use Rattle.std.proofs.lemmas.List.Elements.{Contains-append_cases, Contains-get_or}
 use Rattle.std.proofs.lemmas.List.Concat.{flat_map-append}
 use Rattle.vault_types.specs.declared.Fp.{Fp}
 use Rattle.vault_types.specs.declared.Kind.{Kind}
@@ -21,8 +20,8 @@ use Rattle.vault_types.specs.declared.Fault.{Fault}
 use Rattle.vault_types.specs.declared.Fault.TheVariants as fault
 use Rattle.vault_types.specs.declared.Recipe.{Recipe}
 use Rattle.vault_types.specs.declared.Table.{Table}
-use Rattle.vault_types.specs.Lists.{EachNext, IsAscending, set_of}
-use Rattle.vault_types.specs.Shelf.{Blobs, recipe_name}
+use Rattle.vault_types.specs.Lists.{EachNext, IsAscending}
+use Rattle.vault_types.specs.Shelf.{Blobs}
 use Rattle.vault_traits.specs.Counts.{Rose}
 use Rattle.vault_traits.specs.Causes.{IsCause, HasCauses}
 use Rattle.vault_types.specs.BlobDamage.{IsTableDamage, IsTableWhy, IsFloorIn, IsFloorDamage, IsFloorWhy}
@@ -33,7 +32,8 @@ use Rattle.keeper_open.specs.declared.notes.Chunk.{Chunk}
 use Rattle.keeper_open.specs.declared.notes.RowPlace.{RowPlace}
 use Rattle.keeper_open.specs.declared.notes.Notes.{Notes}
 use Rattle.vault_types.specs.FirstDamage.{ReadsRecipe, ReadsTable, IsDueFrom, FloorsBefore, IsOpeningWhy, IsDamageOf}
-use Rattle.keeper_open.specs.Reading.{SetRead, AreFloors, AreRecipes, AreRead, IsLastDue, IsSetRead, IsVersionDamage, IsVersionWhy, IsSetDamage, IsSetFirst, AreSets, AreTables, last_next, last_sparse, number_of, AreBelow, NotesMore, AreNoted, all_recipes, same_chunk, has_chunk, some_has, left_of, IsFirstTable}
+use Rattle.keeper_open.specs.Reading.{SetRead, AreFloors, AreRecipes, AreReadInOrder, IsLastDue, IsSetRead, IsVersionDamage, IsVersionWhy, IsSetDamage, AreSets, AreReadTables, last_next, last_sparse, number_of, AreBelow, NotesMore, AreNoted, all_recipes, same_chunk, has_chunk, some_has, left_of, IsFirstTable}
+use Rattle.damage_laws.proofs.Elements.{all_in}
 use Rattle.keeper_open.proofs.Noting.{cons_cases, first_in, later_in, none_in}
 
 -- causes
@@ -64,7 +64,7 @@ causes_again old before now P Q up later goes f h (Err e) is = record { later = 
 
 -- the first versions of a set
 pub record AreVersions (told : Option Blobs) (s floor version low : ℕ) (sparse : List ℕ) (old new : Notes) (rs : List Recipe) : Type 0 where
-  pub read : AreRead told s floor rs
+  pub read : AreReadInOrder told s floor rs
   pub count : floor + length rs ≡ version
   pub last : low ≡ last_next rs
   pub used : sparse ≡ last_sparse rs
@@ -79,7 +79,7 @@ pub record AreFirstSets (told : Option Blobs) (infos : List SetInfo) (number : �
 
 -- the first tables
 pub record AreFirstTables (told : Option Blobs) (ids : List ℕ) (tables : List (ℕ × Table)) (found : List (Fp × List ℕ)) (old new : List (Chunk × RowPlace)) (ts : List Table) : Type 0 where
-  pub read : AreTables told ts
+  pub read : AreReadTables told ts
   pub of : map (λ t. t.id) ts ≡ ids
   pub at : (c : ℕ) → table_at tables c ≡ find (λ t. t.id == c) ts
   pub index : IsIndexOf found ts
@@ -119,21 +119,6 @@ floor_damage (Some m) now fs s same all count low kind.Payload n w damage = absu
 floor_damage (Some m) now fs s same all count low kind.Recipe n w damage = absurd damage
 
 -- places in lists
-
-pub some_at : {X : Type 0} (xs : List X) (i : ℕ) → i < length xs → (x : X) × (slice_get xs i ≡ Some x)
-some_at [] i below = absurd (omega arith)
-some_at (x ∷ xs) zero below = (x, refl)
-some_at (x ∷ xs) (suc i) below = some_at xs i (omega arith)
-
-pub at_below : {X : Type 0} (xs : List X) (i : ℕ) (x : X) → slice_get xs i ≡ Some x → i < length xs
-at_below {X} [] i x is = absurd (let clash : ◌≡◌ {A = Option X} None (Some x) = is in cc)
-at_below (y ∷ xs) zero x is = omega arith
-at_below (y ∷ xs) (suc i) x is = omega (arith, at_below xs i x is)
-
-pub in_place : {X : Type 0} (xs : List X) (i : ℕ) (x : X) → slice_get xs i ≡ Some x → Contains xs x
-in_place {X} [] i x is = absurd (let clash : ◌≡◌ {A = Option X} None (Some x) = is in cc)
-in_place (y ∷ xs) zero x is = let same : y ≡ x = cc in subst (λ z. Contains (y ∷ xs) z) same (first_in y xs)
-in_place (y ∷ xs) (suc i) x is = later_in y x xs (in_place xs i x is)
 
 pub place_of : {X : Type 0} (xs : List X) (x : X) → Contains xs x → (i : ℕ) × (slice_get xs i ≡ Some x)
 place_of [] x there = absurd (none_in x there)
@@ -285,10 +270,6 @@ set_more_read told infos news number old mid new ds info rs was is notes pushed 
 pub all_push : {X : Type 0} (P : X → Type 0) (xs : List X) (x : X) → AllByRecursion P xs → P x → AllByRecursion P (xs ++ x ∷ [])
 all_push P [] x all is = (is, tt)
 all_push P (y ∷ xs) x all is = (all.0, all_push P xs x all.1 is)
-
-pub all_in : {X : Type 0} (P : X → Type 0) (xs : List X) (x : X) → AllByRecursion P xs → Contains xs x → P x
-all_in P [] x all there = absurd (none_in x there)
-all_in P (y ∷ xs) x all there = ⊎_elim (λ (here : y ≡ x). subst P here all.0) (λ later. all_in P xs x all.1 later) (cons_cases y x xs there)
 
 pub mapped_in : {X Y : Type 0} (f : X → Y) (xs : List X) (y : Y) → Contains (map f xs) y → (x : X) × Contains xs x × (f x ≡ y)
 mapped_in f [] y there = absurd (none_in y there)

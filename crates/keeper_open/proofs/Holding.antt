@@ -1,6 +1,6 @@
 -- What a shelf that was read holds, and its strays.
-use Rattle.std.proofs.Common.{◌≡◌, ◌≢◌, ◌⊎◌, inl, inr, ⊎_elim, ℕ, zero, suc, ◌+◌, ◌-◌, ◌*◌, ◌/◌, ◌%◌, ◌^◌, ◌<◌, ◌≤◌, Bool, true, false, cond, ◌&&◌, List, [], ◌∷◌, ◌++◌, map, flat_map, length, get_or, Option, Some, None, refl, sym, ap, subst, ◌∙◌, arith}
-use Rattle.std.specs.Prelude.{Contains, IsSome, IfSome, is_some, not, filter, option_map, slice_get, find, ◌==◌, nat_le, nat_lt}
+use Rattle.std.proofs.Common.{◌≡◌, ◌⊎◌, inl, inr, ⊎_elim, ℕ, ◌+◌, ◌-◌, ◌*◌, ◌/◌, ◌%◌, ◌^◌, ◌<◌, ◌≤◌, Bool, true, false, cond, ◌&&◌, List, [], ◌∷◌, ◌++◌, map, length, get_or, Option, Some, None, refl, sym, ap, subst, ◌∙◌, arith}
+use Rattle.std.specs.Prelude.{Contains, IsSome, is_some, not, filter, option_map, slice_get, find, ◌==◌, nat_le, nat_lt}
 use Rattle.std.specs.Option.{option_map_or}
 use Rattle.std.specs.Ordering.{eq_by_cmp}
 use Rattle.std.specs.FinMap as fin
@@ -9,22 +9,21 @@ use Rattle.std.proofs.lemmas.List.{append-nil}
 use Rattle.vault_types.specs.declared.Kind.{Kind}
 use Rattle.vault_types.specs.declared.Kind.TheVariants as kind
 use Rattle.vault_types.specs.declared.Name.{Name}
-use Rattle.vault_types.specs.declared.Row.{Row}
 use Rattle.vault_types.specs.declared.Table.{Table}
-use Rattle.vault_types.specs.Lists.{IsAscending, set_of}
+use Rattle.vault_types.specs.Lists.{IsAscending}
 use Rattle.vault_types.specs.Tables.{Container}
 use Rattle.vault_types.specs.State.{State, KeptVersion, version_of}
-use Rattle.vault_types.specs.Shelf.{Blobs, name_cmp, table_name, payload_name, recipe_name, floor_name, Stands}
-use Rattle.vault_types.specs.Events.{IsContainerName, IsRecipeName, IsFloorName, IsNeeded, Held}
+use Rattle.vault_types.specs.Shelf.{Blobs, name_cmp, table_name, payload_name, Stands}
+use Rattle.vault_types.specs.Events.{IsRecipeName, IsNeeded, Held}
 use Rattle.vault_traits.specs.Shelf.{IsListing}
 use Rattle.vault_traits.proofs.Maps.{exact_names}
-use Rattle.state_laws.specs.Parts.{HeldIfTold}
 use Rattle.keeper_catalog.specs.declared.SetInfo.{SetInfo}
 use Rattle.keeper_catalog.specs.Catalog.{table_at}
 use Rattle.keeper_catalog.specs.View.{opened_core}
 use Rattle.keeper_open.specs.Reading.{SetRead, IsSetRead, AreSets, keeps, needs_number, needs}
 use Rattle.keeper_open.proofs.Noting.{cons_cases, first_in, later_in, none_in}
-use Rattle.keeper_open.proofs.Gathering.{some_at, at_below, set_at, mapped_in}
+use Rattle.keeper_open.proofs.Gathering.{set_at, mapped_in}
+use Rattle.damage_laws.proofs.Elements.{some_at, at_below}
 use Rattle.keeper_open.proofs.Searching.{some_passes, is_equal, present}
 use Rattle.keeper_open.proofs.Stated.{container_of, containers_in, state_of, dataset_of, length_map, get_map, map_at, find_is, found_in, version_is, version_back}
 

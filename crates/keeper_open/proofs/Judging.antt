@@ -1,6 +1,6 @@
 -- Rows against tables, and the first table or row that is bad.
-use Rattle.std.proofs.Common.{◌≡◌, ◌≢◌, ◌⊎◌, inl, inr, ⊎_elim, ℕ, zero, suc, ◌+◌, ◌-◌, ◌*◌, ◌^◌, ◌<◌, ◌≤◌, Bool, true, false, cond, List, [], ◌∷◌, ◌++◌, map, flat_map, length, Option, Some, None, refl, sym, ap, subst, ◌∙◌, arith}
-use Rattle.std.specs.Prelude.{Contains, IsSome, IfSome, slice_get}
+use Rattle.std.proofs.Common.{◌≡◌, ◌⊎◌, ⊎_elim, ℕ, ◌+◌, ◌-◌, ◌*◌, ◌^◌, ◌<◌, ◌≤◌, Bool, true, false, List, [], ◌++◌, map, length, Option, Some, None, refl, sym, ap, subst, ◌∙◌, arith}
+use Rattle.std.specs.Prelude.{Contains, slice_get}
 use Rattle.std.specs.Map.{lookup}
 use Rattle.std.proofs.lemmas.List.{append-nil}
 use Rattle.vault_types.specs.declared.Kind.{Kind}
@@ -11,17 +11,19 @@ use Rattle.vault_types.specs.declared.Row.{Row}
 use Rattle.vault_types.specs.declared.Table.{Table}
 use Rattle.vault_types.specs.declared.Recipe.{Recipe}
 use Rattle.vault_types.specs.Lists.{set_of}
-use Rattle.vault_types.specs.Shelf.{Blobs, recipe_name}
+use Rattle.vault_types.specs.Shelf.{Blobs}
 use Rattle.blob_parts.proofs.Fields.{blob_same}
 use Rattle.container_store.proofs.TableLemmas.{has_widths}
 use Rattle.container_store.proofs.TableField.{table_field}
 use Rattle.keeper_open.specs.declared.notes.Chunk.{Chunk}
 use Rattle.keeper_open.specs.declared.notes.RowPlace.{RowPlace}
-use Rattle.vault_types.specs.FirstDamage.{ReadsRecipe, ReadsTable, IsDue, IsRowAt, IsNamed, IsInTable, IsBefore, FloorsBefore, RecipesBefore, TablesBefore, RowsBefore, AreRecipesGood, AreTablesGood, IsFirstDamage, IsOpeningWhy, IsDamageOf}
-use Rattle.keeper_open.specs.Reading.{SetRead, AreFloors, IsSetRead, AreSets, AreTables, all_recipes, rows_of, chunk_of, same_chunk, number_of, placed, AreFirst, IsNotAfter, some_has, left_of, IsFirstTable}
-use Rattle.keeper_open.proofs.Noting.{none_in, not_after_trans}
-use Rattle.keeper_open.proofs.Gathering.{at_below, in_place, place_of, recipe_read, set_at, all_in, mapped_in, floors_before}
-use Rattle.keeper_open.proofs.Damaging.{recipe_unique, due_recipe, due_in, sets_good}
+use Rattle.vault_types.specs.FirstDamage.{ReadsRecipe, ReadsTable, IsRecipeDue, IsRowAt, IsNamedByRow, IsInTable, IsBefore, FloorsBefore, RecipesBefore, RowsBefore, AreTablesGood, IsFirstDamage, IsOpeningWhy, IsDamageOf}
+use Rattle.keeper_open.specs.Reading.{SetRead, AreFloors, IsSetRead, AreSets, AreReadTables, all_recipes, rows_of_all, chunk_of_row, same_chunk, number_of, placed, AreFirst, IsNotAfter, some_has, left_of, IsFirstTable}
+use Rattle.keeper_open.proofs.Noting.{not_after_trans}
+use Rattle.keeper_open.proofs.Gathering.{place_of, recipe_read, set_at, mapped_in, floors_before}
+use Rattle.damage_laws.proofs.Elements.{at_below, in_place, all_in}
+use Rattle.damage_laws.proofs.Unique.{recipe_unique}
+use Rattle.keeper_open.proofs.Damaging.{due_recipe, due_in, sets_good}
 use Rattle.keeper_open.proofs.Stated.{located, recipe_among, placed_recipe_row, recipe_placed, row_of_recipe, row_in_all, has_is, is_has, set_in, in_set, map_at}
 
 -- the table of a container is one
@@ -35,16 +37,16 @@ abbrev Entries : Type 0
 Entries = List (Chunk × RowPlace)
 
 abbrev pub ids_in : List SetRead → List ℕ
-ids_in ds = set_of (map (λ r. r.id) (rows_of (all_recipes ds)))
+ids_in ds = set_of (map (λ r. r.id) (rows_of_all (all_recipes ds)))
 
 -- where no place is left, each row stands in its table
 pub rows_all : (ds : List SetRead) (ts : List Table) (places left : Entries) → AreFirst places (placed (all_recipes ds)) → ((k : Chunk) → lookup (same_chunk k) left ≡ left_of (some_has ts k) (lookup (same_chunk k) places))
-    → ((k : Chunk) → lookup (same_chunk k) left ≡ None) → (row : Row) → Contains (rows_of (all_recipes ds)) row → some_has ts (chunk_of row) ≡ true
+    → ((k : Chunk) → lookup (same_chunk k) left ≡ None) → (row : Row) → Contains (rows_of_all (all_recipes ds)) row → some_has ts (chunk_of_row row) ≡ true
 rows_all ds ts places left first is none row there =
     let of = row_of_recipe (all_recipes ds) row there in
     let place = place_of of.0.rows row of.2 in
-    let found = first.first (chunk_of row) (record { number = number_of of.0; row = 0 + place.0 }) (placed_recipe_row (all_recipes ds) of.0 place.0 row of.1 place.1) in
-    by_test found.0 (some_has ts (chunk_of row)) (sym (none (chunk_of row)) ∙ is (chunk_of row) ∙ ap (left_of (some_has ts (chunk_of row))) found.1)
+    let found = first.first (chunk_of_row row) (record { number = number_of of.0; row = 0 + place.0 }) (placed_recipe_row (all_recipes ds) of.0 place.0 row of.1 place.1) in
+    by_test found.0 (some_has ts (chunk_of_row row)) (sym (none (chunk_of_row row)) ∙ is (chunk_of_row row) ∙ ap (left_of (some_has ts (chunk_of_row row))) found.1)
   where
     by_test : (q : RowPlace) (b : Bool) → None ≡ left_of b (Some q) → b ≡ true
     by_test q true e = refl
@@ -71,7 +73,7 @@ too_late p n s v i t w j same number at last before after = ⊎_elim
 
 module _ (m : Blobs) (ds : List SetRead) (read : AreSets (Some m) 0 ds) (count : length ds ≡ 256) where
   -- a recipe that was read is due
-  due_of : (r : Recipe) → Contains (all_recipes ds) r → IsDue m r.set r.version × ReadsRecipe (Some m) r.set r.version r
+  due_of : (r : Recipe) → Contains (all_recipes ds) r → IsRecipeDue m r.set r.version × ReadsRecipe (Some m) r.set r.version r
   due_of r there =
       let at = located (Some m) 0 ds r read there in
       let d = at.1 in
@@ -105,16 +107,16 @@ module _ (m : Blobs) (ds : List SetRead) (read : AreSets (Some m) 0 ds) (count :
       let same : r.0 ≡ is.recipe = recipe_unique m t w r.0 is.recipe r.2 is.reads in
       (r.0, recipe_among ds t (w - d.0.info.floor) d.0 r.0 d.1 r.1, ap (λ (q : Recipe). slice_get q.rows j) same ∙ is.at, r.2.2.set, r.2.2.number)
 
-  pub named_in : (c : ℕ) → IsNamed m c → Contains (ids_in ds) c
+  pub named_in : (c : ℕ) → IsNamedByRow m c → Contains (ids_in ds) c
   named_in c named =
       let back = row_back named.set named.version named.place named.row named.is_row in
-      in_set c (map (λ r. r.id) (rows_of (all_recipes ds)))
-      (subst (λ (i : ℕ). Contains (map (λ r. r.id) (rows_of (all_recipes ds))) i) named.is
-      (map_at (λ (r : Row). r.id) (rows_of (all_recipes ds)) named.row (row_in_all (all_recipes ds) back.0 named.row back.1 (in_place back.0.rows named.place named.row back.2))))
+      in_set c (map (λ r. r.id) (rows_of_all (all_recipes ds)))
+      (subst (λ (i : ℕ). Contains (map (λ r. r.id) (rows_of_all (all_recipes ds))) i) named.is
+      (map_at (λ (r : Row). r.id) (rows_of_all (all_recipes ds)) named.row (row_in_all (all_recipes ds) back.0 named.row back.1 (in_place back.0.rows named.place named.row back.2))))
 
-  pub is_named : (c : ℕ) → Contains (ids_in ds) c → IsNamed m c
+  pub is_named : (c : ℕ) → Contains (ids_in ds) c → IsNamedByRow m c
   is_named c there =
-      let of = mapped_in (λ (r : Row). r.id) (rows_of (all_recipes ds)) c (set_in c (map (λ r. r.id) (rows_of (all_recipes ds))) there) in
+      let of = mapped_in (λ (r : Row). r.id) (rows_of_all (all_recipes ds)) c (set_in c (map (λ r. r.id) (rows_of_all (all_recipes ds))) there) in
       let recipe = row_of_recipe (all_recipes ds) of.0 of.1 in
       let place = place_of recipe.0.rows of.0 recipe.2 in
       record { set = recipe.0.set; version = recipe.0.version; place = place.0; row = of.0; is_row = row_at recipe.0 place.0 of.0 recipe.1 place.1; is = of.2 }
@@ -132,8 +134,8 @@ module _ (m : Blobs) (ds : List SetRead) (read : AreSets (Some m) 0 ds) (count :
     table_first kind.Recipe n w first = absurd first
     table_first kind.Floor n w first = absurd first
 
-    module _ (ts : List Table) (tables : AreTables (Some m) ts) (ids : map (λ t. t.id) ts ≡ ids_in ds) where
-      table_good : (c : ℕ) → IsNamed m c → (t : Table) × Contains ts t × (t.id ≡ c) × ReadsTable (Some m) c t
+    module _ (ts : List Table) (tables : AreReadTables (Some m) ts) (ids : map (λ t. t.id) ts ≡ ids_in ds) where
+      table_good : (c : ℕ) → IsNamedByRow m c → (t : Table) × Contains ts t × (t.id ≡ c) × ReadsTable (Some m) c t
       table_good c named =
           let of = mapped_in (λ (t : Table). t.id) ts c (subst (λ (l : List ℕ). Contains l c) (sym ids) (named_in c named)) in
           (of.0, of.1, of.2, subst (λ (i : ℕ). ReadsTable (Some m) i of.0) of.2 (all_in (λ (t : Table). ReadsTable (Some m) t.id t) ts of.0 tables of.1))
@@ -141,12 +143,12 @@ module _ (m : Blobs) (ds : List SetRead) (read : AreSets (Some m) 0 ds) (count :
       tables_good : AreTablesGood m
       tables_good = record { floors = floors_good; recipes = recipes_good; tables = λ c named. let t = table_good c named in (t.0, t.3) }
 
-      in_table : (row : Row) → some_has ts (chunk_of row) ≡ true → IsInTable m row
+      in_table : (row : Row) → some_has ts (chunk_of_row row) ≡ true → IsInTable m row
       in_table row is =
           let of = has_is ts row is in
           (of.0, subst (λ (i : ℕ). ReadsTable (Some m) i of.0) of.2 (all_in (λ (t : Table). ReadsTable (Some m) t.id t) ts of.0 tables of.1), of.3)
 
-      table_in : (row : Row) → IsNamed m row.id → IsInTable m row → some_has ts (chunk_of row) ≡ true
+      table_in : (row : Row) → IsNamedByRow m row.id → IsInTable m row → some_has ts (chunk_of_row row) ≡ true
       table_in row named is =
           let t = table_good row.id named in
           let same : is.0 ≡ t.0 = table_unique m row.id is.0 t.0 is.1 t.3 in
@@ -161,20 +163,20 @@ module _ (m : Blobs) (ds : List SetRead) (read : AreSets (Some m) 0 ds) (count :
         bad : (some_has ts k ≡ false) × (lookup (same_chunk k) places ≡ Some p)
         bad = stays (some_has ts k) (lookup (same_chunk k) places) (sym (is k) ∙ here)
 
-        of_place : (r : Recipe) × (j : ℕ) × (row : Row) × Contains (all_recipes ds) r × (slice_get r.rows j ≡ Some row) × (p.number ≡ number_of r) × (p.row ≡ j) × (chunk_of row ≡ k)
+        of_place : (r : Recipe) × (j : ℕ) × (row : Row) × Contains (all_recipes ds) r × (slice_get r.rows j ≡ Some row) × (p.number ≡ number_of r) × (p.row ≡ j) × (chunk_of_row row ≡ k)
         of_place = recipe_placed (all_recipes ds) k p (first.sound k p bad.1)
 
-        not_in : (row : Row) → chunk_of row ≡ k → IsNamed m row.id → IsInTable m row → ⊥
+        not_in : (row : Row) → chunk_of_row row ≡ k → IsNamedByRow m row.id → IsInTable m row → ⊥
         not_in row same named stands = let clash : true ≡ false = sym (table_in row named stands) ∙ ap (some_has ts) same ∙ bad.0 in cc
 
         rows_before : (s v i : ℕ) → p.number ≡ s * 2 ^ 32 + v → p.row ≡ i → RowsBefore m s v i
-        rows_before s v i number at t w j row before is_row = by_test (row_back t w j row is_row) (some_has ts (chunk_of row)) refl
+        rows_before s v i number at t w j row before is_row = by_test (row_back t w j row is_row) (some_has ts (chunk_of_row row)) refl
           where
-            by_test : (r : Recipe) × Contains (all_recipes ds) r × (slice_get r.rows j ≡ Some row) × (r.set ≡ t) × (r.version ≡ w) → (b : Bool) → some_has ts (chunk_of row) ≡ b → IsInTable m row
+            by_test : (r : Recipe) × Contains (all_recipes ds) r × (slice_get r.rows j ≡ Some row) × (r.set ≡ t) × (r.version ≡ w) → (b : Bool) → some_has ts (chunk_of_row row) ≡ b → IsInTable m row
             by_test back true e = in_table row e
             by_test back false e =
-                let found = first.first (chunk_of row) (record { number = number_of back.0; row = 0 + j }) (placed_recipe_row (all_recipes ds) back.0 j row back.1 back.2) in
-                let after = least (chunk_of row) found.0 (is (chunk_of row) ∙ ap (λ b. left_of b (lookup (same_chunk (chunk_of row)) places)) e ∙ found.1) in
+                let found = first.first (chunk_of_row row) (record { number = number_of back.0; row = 0 + j }) (placed_recipe_row (all_recipes ds) back.0 j row back.1 back.2) in
+                let after = least (chunk_of_row row) found.0 (is (chunk_of_row row) ∙ ap (λ b. left_of b (lookup (same_chunk (chunk_of_row row)) places)) e ∙ found.1) in
                 let set = back.3 in
                 let version = back.4 in
                 absurd (too_late p (number_of back.0) s v i t w j (omega (arith, set, version)) number at is_row.due.last before (not_after_trans p found.0 (record { number = number_of back.0; row = 0 + j }) after found.2))
@@ -184,7 +186,7 @@ module _ (m : Blobs) (ds : List SetRead) (read : AreSets (Some m) 0 ds) (count :
             let r = of_place.0 in
             let due = due_of r of_place.3 in
             let place = row_at r of_place.1 of_place.2 of_place.3 of_place.4 in
-            let named : IsNamed m of_place.2.id = record { set = r.set; version = r.version; place = of_place.1; row = of_place.2; is_row = place; is = refl } in (
+            let named : IsNamedByRow m of_place.2.id = record { set = r.set; version = r.version; place = of_place.1; row = of_place.2; is_row = place; is = refl } in (
               r.set,
               r.version,
               of_place.5,
@@ -212,7 +214,7 @@ table_damage_of None now fs ds ids same floors all read count of k n w first = t
 table_damage_of (Some m) now fs ds ids same floors all read count of k n w first =
     table_first m ds read count fs floors all k n w (subst (λ (l : List ℕ). IsFirstTable (Some m) l k n w) of (subst (λ (t : Option Blobs). IsFirstTable t ids k n w) same first))
 
-pub row_damage_of : (told : Option Blobs) (fs : List ℕ) (ds : List SetRead) (ts : List Table) (places left : Entries) → AreFloors told 0 fs → length fs ≡ 256 → AreSets told 0 ds → length ds ≡ 256 → AreTables told ts → map (λ t. t.id) ts ≡ ids_in ds
+pub row_damage_of : (told : Option Blobs) (fs : List ℕ) (ds : List SetRead) (ts : List Table) (places left : Entries) → AreFloors told 0 fs → length fs ≡ 256 → AreSets told 0 ds → length ds ≡ 256 → AreReadTables told ts → map (λ t. t.id) ts ≡ ids_in ds
     → AreFirst places (placed (all_recipes ds)) → ((k : Chunk) → lookup (same_chunk k) left ≡ left_of (some_has ts k) (lookup (same_chunk k) places)) → (p : RowPlace) → (k : Chunk) × (lookup (same_chunk k) left ≡ Some p)
     → ((k : Chunk) (q : RowPlace) → lookup (same_chunk k) left ≡ Some q → IsNotAfter p q) → IsDamageOf told kind.Recipe p.number (why.BadRow p.row)
 row_damage_of None fs ds ts places left floors all read count tables ids first is p here least = tt

@@ -1,22 +1,19 @@
 -- What is noted of recipes.
-use Rattle.std.proofs.Common.{◌≡◌, ◌≢◌, ◌⊎◌, inl, inr, ⊎_elim, ℕ, zero, suc, ◌+◌, ◌-◌, ◌*◌, ◌^◌, ◌<◌, ◌≤◌, Bool, true, false, cond, ◌&&◌, ◌||◌, List, [], ◌∷◌, ◌++◌, map, flat_map, length, take, get_or, Option, Some, None, refl, sym, ap, subst, ◌∙◌, arith}
-use Rattle.std.specs.Prelude.{Contains, IsSome, IfSome, IfNone, is_some, nat_eq}
-use Rattle.std.specs.List.{AllByRecursion, list_any, IsDistinct}
+use Rattle.std.proofs.Common.{◌≡◌, ◌⊎◌, inl, inr, ⊎_elim, ℕ, zero, suc, ◌+◌, ◌<◌, ◌≤◌, Bool, true, false, cond, ◌&&◌, ◌||◌, List, [], ◌∷◌, ◌++◌, map, length, take, get_or, Option, Some, None, refl, sym, ap, subst, ◌∙◌, arith}
+use Rattle.std.specs.Prelude.{Contains, IsSome, IfSome, is_some, nat_eq}
+use Rattle.std.specs.List.{AllByRecursion, IsDistinct}
 use Rattle.std.specs.Map.{lookup, keys_of, values_of}
-use Rattle.std.specs.Cmp.{IsEquivalence}
-use Rattle.std.proofs.lemmas.Bool.{cases_lt, cases_eq}
 use Rattle.std.proofs.lemmas.Bool.Decides.{nat_tests}
-use Rattle.std.proofs.lemmas.List.{append_assoc, append-nil, map-append, take_more, take_all}
+use Rattle.std.proofs.lemmas.List.{append_assoc, append-nil, map-append, take_more}
 use Rattle.std.proofs.lemmas.List.Folds.{list_any-append}
-use Rattle.std.proofs.lemmas.List.Elements.{Contains-append_left, Contains-append_right, Contains-append_cases, Contains-push, Contains-push_cases}
+use Rattle.std.proofs.lemmas.List.Elements.{Contains-append_left, Contains-append_cases, Contains-push, Contains-push_cases}
 use Rattle.std.proofs.lemmas.List.Concat.{flat_map-append}
 use Rattle.std.specs.BTreeSet.{insert_key}
 use Rattle.std.specs.Ordering.{nat_cmp}
-use Rattle.vault_types.specs.declared.Fp.{Fp}
 use Rattle.vault_types.specs.declared.Row.{Row}
 use Rattle.vault_types.specs.declared.TableRow.{TableRow}
 use Rattle.vault_types.specs.declared.Recipe.{Recipe}
-use Rattle.vault_types.specs.Lists.{has, with_number, set_of, IsAscending}
+use Rattle.vault_types.specs.Lists.{has, with_number, set_of}
 use Rattle.vault_types.specs.Names.{same_fp}
 use Rattle.vault_types.specs.Marks.{Mark, marks_of}
 use Rattle.vault_types.proofs.FillLemmas.{same_fps, bytes_eq-same}
@@ -24,7 +21,7 @@ use Rattle.vault_types.proofs.SetLemmas.{has-set_of, has-with_number, IsAscendin
 use Rattle.keeper_catalog.proofs.Ids.{insert_is}
 use Rattle.keeper_open.specs.declared.notes.Chunk.{Chunk}
 use Rattle.keeper_open.specs.declared.notes.RowPlace.{RowPlace}
-use Rattle.keeper_open.specs.Reading.{rows_of, marks_in, chunk_of, same_chunk, placed_rows, number_of, placed, IsNotAfter, IsLesserOf, AreFirst, ArePlacesBefore, AreBelow, has_chunk, left_of}
+use Rattle.keeper_open.specs.Reading.{rows_of_all, marks_in, chunk_of_row, same_chunk, placed_rows, number_of, placed, IsNotAfter, IsLesserOf, AreFirst, ArePlacesBefore, AreBelow, has_chunk, left_of}
 
 -- elements
 
@@ -122,18 +119,18 @@ new_first es fs before k p was none update = record {
 
 -- places of rows
 
-pub placed_more : (number i : ℕ) (rows : List Row) (r : Row) → placed_rows number i (rows ++ r ∷ []) ≡ placed_rows number i rows ++ (chunk_of r, record { number = number; row = i + length rows }) ∷ []
-placed_more number i [] r = ap (λ (j : ℕ). (chunk_of r, record { number = number; row = j }) ∷ []) (let e : i ≡ i + 0 = omega arith in e)
+pub placed_more : (number i : ℕ) (rows : List Row) (r : Row) → placed_rows number i (rows ++ r ∷ []) ≡ placed_rows number i rows ++ (chunk_of_row r, record { number = number; row = i + length rows }) ∷ []
+placed_more number i [] r = ap (λ (j : ℕ). (chunk_of_row r, record { number = number; row = j }) ∷ []) (let e : i ≡ i + 0 = omega arith in e)
 placed_more number i (q ∷ rows) r =
-    ap (λ (es : Places). (chunk_of q, record { number = number; row = i }) ∷ es)
-    (placed_more number (i + 1) rows r ∙ ap (λ (j : ℕ). placed_rows number (i + 1) rows ++ (chunk_of r, record { number = number; row = j }) ∷ []) (let e : i + 1 + length rows ≡ i + suc (length rows) = omega arith in e))
+    ap (λ (es : Places). (chunk_of_row q, record { number = number; row = i }) ∷ es)
+    (placed_more number (i + 1) rows r ∙ ap (λ (j : ℕ). placed_rows number (i + 1) rows ++ (chunk_of_row r, record { number = number; row = j }) ∷ []) (let e : i + 1 + length rows ≡ i + suc (length rows) = omega arith in e))
 
 pub placed_in : (number i : ℕ) (rows : List Row) (e : Chunk × RowPlace) → Contains (placed_rows number i rows) e → (e.1.number ≡ number) × (e.1.row < i + length rows)
 placed_in number i [] e there = absurd (none_in e there)
 placed_in number i (r ∷ rows) e there = ⊎_elim
     (λ here. (ap (λ (f : Chunk × RowPlace). f.1.number) (sym here), let row : e.1.row ≡ i = ap (λ (f : Chunk × RowPlace). f.1.row) (sym here) in omega (arith, row)))
     (λ later. let found = placed_in number (i + 1) rows e later in (found.0, omega (arith, found.1)))
-    (cons_cases (chunk_of r, record { number = number; row = i }) e (placed_rows number (i + 1) rows) there)
+    (cons_cases (chunk_of_row r, record { number = number; row = i }) e (placed_rows number (i + 1) rows) there)
 
 later_row : (p : RowPlace) (number i j : ℕ) → i ≤ j → IsNotAfter p (record { number = number; row = i }) → IsNotAfter p (record { number = number; row = j })
 later_row p number i j up = ⊎_elim (λ low. inl low) (λ same. inr (same.0, omega (arith, same.1, up)))
@@ -150,20 +147,20 @@ length_taken [] (suc i) up = absurd (omega arith)
 length_taken (r ∷ rows) (suc i) up = omega (arith, length_taken rows i (omega arith))
 
 pub rows_more : (before : Places) (number : ℕ) (rows : List Row) (i : ℕ) (d : Row) → i < length rows
-    → (before ++ placed_rows number 0 (take i rows)) ++ (chunk_of (get_or rows i d), record { number = number; row = i }) ∷ [] ≡ before ++ placed_rows number 0 (take (i + 1) rows)
+    → (before ++ placed_rows number 0 (take i rows)) ++ (chunk_of_row (get_or rows i d), record { number = number; row = i }) ∷ [] ≡ before ++ placed_rows number 0 (take (i + 1) rows)
 rows_more before number rows i d below =
-    append_assoc before (placed_rows number 0 (take i rows)) ((chunk_of (get_or rows i d), record { number = number; row = i }) ∷ [])
+    append_assoc before (placed_rows number 0 (take i rows)) ((chunk_of_row (get_or rows i d), record { number = number; row = i }) ∷ [])
     ∙ ap (λ (es : Places). before ++ es)
-    (ap (λ (j : ℕ). placed_rows number 0 (take i rows) ++ (chunk_of (get_or rows i d), record { number = number; row = j }) ∷ []) (let e : i ≡ 0 + length (take i rows) = omega (arith, length_taken rows i (omega arith)) in e)
+    (ap (λ (j : ℕ). placed_rows number 0 (take i rows) ++ (chunk_of_row (get_or rows i d), record { number = number; row = j }) ∷ []) (let e : i ≡ 0 + length (take i rows) = omega (arith, length_taken rows i (omega arith)) in e)
     ∙ sym (placed_more number 0 (take i rows) (get_or rows i d))
     ∙ ap (λ (l : List Row). placed_rows number 0 l) (sym (take_more rows i d below)))
 
 -- one more row is noted
-pub row_noted : (es : Entries) (before : Places) (number : ℕ) (rows : List Row) (i : ℕ) (d : Row) (chunk : Chunk) (place : RowPlace) (fs : Entries) → i < length rows → chunk ≡ chunk_of (get_or rows i d) → place ≡ record { number = number; row = i }
+pub row_noted : (es : Entries) (before : Places) (number : ℕ) (rows : List Row) (i : ℕ) (d : Row) (chunk : Chunk) (place : RowPlace) (fs : Entries) → i < length rows → chunk ≡ chunk_of_row (get_or rows i d) → place ≡ record { number = number; row = i }
     → ((ps : Places) → AreFirst es ps → ArePlacesBefore ps place → AreFirst fs (ps ++ (chunk, place) ∷ []))
     → ArePlacesBefore before (record { number = number; row = 0 }) → AreFirst es (before ++ placed_rows number 0 (take i rows)) → AreFirst fs (before ++ placed_rows number 0 (take (i + 1) rows))
 row_noted es before number rows i d chunk place fs below is_chunk is_place step old was =
-    subst (λ (ps : Places). AreFirst fs ps) (ap (λ (c : Chunk). (before ++ placed_rows number 0 (take i rows)) ++ (c, place) ∷ []) is_chunk ∙ ap (λ (p : RowPlace). (before ++ placed_rows number 0 (take i rows)) ++ (chunk_of (get_or rows i d), p) ∷ []) is_place ∙ rows_more before number rows i d below)
+    subst (λ (ps : Places). AreFirst fs ps) (ap (λ (c : Chunk). (before ++ placed_rows number 0 (take i rows)) ++ (c, place) ∷ []) is_chunk ∙ ap (λ (p : RowPlace). (before ++ placed_rows number 0 (take i rows)) ++ (chunk_of_row (get_or rows i d), p) ∷ []) is_place ∙ rows_more before number rows i d below)
     (step (before ++ placed_rows number 0 (take i rows)) was (subst (λ (p : RowPlace). ArePlacesBefore (before ++ placed_rows number 0 (take i rows)) p) (sym is_place) (before_more before number i (take i rows) (omega (arith, length_taken rows i (omega arith))) old)))
 
 -- recipes
@@ -204,16 +201,16 @@ ids_more keys news before ids i d below is was =
     is ∙ insert_is (get_or ids i d) keys ∙ ap (λ (l : List ℕ). with_number (get_or ids i d) l) was ∙ set_more (before ++ take i ids) (get_or ids i d)
     ∙ ap set_of (append_assoc before (take i ids) (get_or ids i d ∷ []) ∙ ap (λ (l : List ℕ). before ++ l) (sym (take_more ids i d below)))
 
-pub ids_recipe : (rs : List Recipe) (r : Recipe) → set_of (map (λ q. q.id) (rows_of rs) ++ set_of (map (λ q. q.id) r.rows)) ≡ set_of (map (λ q. q.id) (rows_of (rs ++ r ∷ [])))
-ids_recipe rs r = ascending_unique _ _ (IsAscending-set_of (map (λ q. q.id) (rows_of rs) ++ set_of (map (λ q. q.id) r.rows))) (IsAscending-set_of (map (λ q. q.id) (rows_of (rs ++ r ∷ []))))
+pub ids_recipe : (rs : List Recipe) (r : Recipe) → set_of (map (λ q. q.id) (rows_of_all rs) ++ set_of (map (λ q. q.id) r.rows)) ≡ set_of (map (λ q. q.id) (rows_of_all (rs ++ r ∷ [])))
+ids_recipe rs r = ascending_unique _ _ (IsAscending-set_of (map (λ q. q.id) (rows_of_all rs) ++ set_of (map (λ q. q.id) r.rows))) (IsAscending-set_of (map (λ q. q.id) (rows_of_all (rs ++ r ∷ []))))
     (λ k.
-    has-set_of k (map (λ q. q.id) (rows_of rs) ++ set_of (map (λ q. q.id) r.rows))
-    ∙ list_any-append (nat_eq k) (map (λ q. q.id) (rows_of rs)) (set_of (map (λ q. q.id) r.rows))
-    ∙ ap (λ b. has k (map (λ q. q.id) (rows_of rs)) || b) (has-set_of k (map (λ q. q.id) r.rows))
-    ∙ sym (has-set_of k (map (λ q. q.id) (rows_of (rs ++ r ∷ [])))
-    ∙ ap (λ (l : List Row). has k (map (λ q. q.id) l)) (flat_map-append (λ (q : Recipe). q.rows) rs (r ∷ []) ∙ ap (λ (l : List Row). rows_of rs ++ l) (append-nil r.rows))
-    ∙ ap (has k) (map-append (λ (q : Row). q.id) (rows_of rs) r.rows)
-    ∙ list_any-append (nat_eq k) (map (λ q. q.id) (rows_of rs)) (map (λ q. q.id) r.rows)))
+    has-set_of k (map (λ q. q.id) (rows_of_all rs) ++ set_of (map (λ q. q.id) r.rows))
+    ∙ list_any-append (nat_eq k) (map (λ q. q.id) (rows_of_all rs)) (set_of (map (λ q. q.id) r.rows))
+    ∙ ap (λ b. has k (map (λ q. q.id) (rows_of_all rs)) || b) (has-set_of k (map (λ q. q.id) r.rows))
+    ∙ sym (has-set_of k (map (λ q. q.id) (rows_of_all (rs ++ r ∷ [])))
+    ∙ ap (λ (l : List Row). has k (map (λ q. q.id) l)) (flat_map-append (λ (q : Recipe). q.rows) rs (r ∷ []) ∙ ap (λ (l : List Row). rows_of_all rs ++ l) (append-nil r.rows))
+    ∙ ap (has k) (map-append (λ (q : Row). q.id) (rows_of_all rs) r.rows)
+    ∙ list_any-append (nat_eq k) (map (λ q. q.id) (rows_of_all rs)) (map (λ q. q.id) r.rows)))
 
 -- chunks that tables have
 

@@ -1,16 +1,15 @@
 -- What a search among the names that a shelf lists finds.
-use Rattle.std.proofs.Common.{◌≡◌, ◌≢◌, ◌⊎◌, inl, inr, ⊎_elim, ℕ, zero, suc, ◌+◌, ◌-◌, ◌*◌, ◌^◌, ◌<◌, ◌≤◌, Bool, true, false, cond, List, [], ◌∷◌, length, get_or, Option, Some, None, refl, sym, ap, subst, ◌∙◌, arith, ◌||◌}
-use Rattle.std.specs.Prelude.{Contains, IsSome, IfSome, IfNone, is_some, is_ok, Result, Ok, Err, MatchResult}
+use Rattle.std.proofs.Common.{◌≡◌, ◌⊎◌, inl, inr, ⊎_elim, ℕ, zero, suc, ◌+◌, ◌-◌, ◌*◌, ◌^◌, ◌<◌, ◌≤◌, Bool, true, false, List, [], ◌∷◌, length, get_or, Option, Some, None, refl, sym, ap, subst, ◌∙◌, arith, ◌||◌}
+use Rattle.std.specs.Prelude.{IsSome, IfSome, IfNone, is_some, is_ok, Result, Ok, Err}
 use Rattle.std.specs.List.{list_any, HoldsAt}
 use Rattle.std.specs.List.Sorted.{IsStrictlySortedBy, IsNonDecreasingBy, IsPartitionPoint, IsBinarySearchResult, IsSearchInRange}
 use Rattle.std.specs.Ordering.{ordering_reverse, nat_cmp, eq_by_cmp, ordering_then, ordering_index, is_lt, is_eq, MatchOrdering}
 use Rattle.std.specs.declared.cmp.Ordering.{Ordering}
 use Rattle.std.specs.declared.cmp.Ordering.TheVariants.{Less, Equal, Greater}
-use Rattle.std.specs.Cmp.{IsTotalOrder, nat_cmp_total}
-use Rattle.std.proofs.lemmas.Cmp.{ranked, tied_back, tied_itself, by_ranked}
+use Rattle.std.proofs.lemmas.Cmp.{ranked, tied_back, tied_itself}
 use Rattle.std.proofs.lemmas.List.Sorted.{searchable_from_sorted}
 use Rattle.std.proofs.lemmas.Map.Keys.{Less-from_sorted}
-use Rattle.std.proofs.lemmas.Bool.{cases_lt, cases_eq}
+use Rattle.std.proofs.lemmas.Bool.{cases_lt}
 use Rattle.std.specs.FinMap as fin
 use Rattle.vault_types.specs.declared.Name.{Name}
 use Rattle.vault_types.specs.declared.Kind.{Kind}
@@ -19,7 +18,6 @@ use Rattle.vault_types.specs.contracts.NameOrd.TheImpl.{cmp-value}
 use Rattle.vault_types.specs.Shelf.{Blobs, kind_rank, name_cmp, recipe_name}
 use Rattle.vault_traits.specs.Shelf.{IsListing}
 use Rattle.vault_traits.proofs.Maps.{names_total, exact_names}
-use Rattle.vault_types.specs.FirstDamage.{IsDueFrom, IsListedFrom}
 use Rattle.keeper_open.specs.Reading.{IsLastListed, IsLastDue}
 
 -- the derived order of names is `name_cmp`

@@ -1,13 +1,9 @@
 -- The state that was read: its rows, containers and versions.
-use Rattle.std.proofs.Common.{◌≡◌, ◌≢◌, ◌⊎◌, inl, inr, ⊎_elim, ℕ, zero, suc, ◌+◌, ◌-◌, ◌*◌, ◌^◌, ◌<◌, ◌≤◌, Bool, true, false, cond, ◌&&◌, ◌||◌, List, [], ◌∷◌, ◌++◌, map, flat_map, length, get_or, Option, Some, None, refl, sym, ap, subst, ◌∙◌, arith, length-append}
-use Rattle.std.specs.Prelude.{Contains, IsSome, IfSome, IsSomeAnd, IsTrue, MatchOption, option_map, unwrap_or, slice_get, slice_index_or, nat_eq, nat_lt, find, ◌==◌, is_some}
-use Rattle.std.specs.Option.{option_map_or}
+use Rattle.std.proofs.Common.{◌≡◌, ⊎_elim, ℕ, zero, suc, ◌+◌, ◌-◌, ◌<◌, ◌≤◌, Bool, true, false, cond, ◌||◌, List, [], ◌∷◌, ◌++◌, map, flat_map, length, Option, Some, None, refl, sym, ap, subst, ◌∙◌, arith}
+use Rattle.std.specs.Prelude.{Contains, IsSomeAnd, IsTrue, option_map, slice_get, slice_index_or, nat_eq, nat_lt, find, ◌==◌}
 use Rattle.std.specs.List.{AllByRecursion, last_or, list_any}
-use Rattle.std.specs.Map.{lookup}
-use Rattle.std.specs.FinMap as fin
-use Rattle.std.proofs.lemmas.Bool.{cases_lt, cases_eq}
+use Rattle.std.proofs.lemmas.Bool.{cases_lt}
 use Rattle.std.proofs.lemmas.Bool.Decides.{nat_tests}
-use Rattle.std.proofs.lemmas.List.{append-nil, map-append}
 use Rattle.std.proofs.lemmas.List.Elements.{Contains-append_left, Contains-append_right, Contains-append_cases}
 use Rattle.std.proofs.lemmas.List.Concat.{flat_map-append}
 use Rattle.vault_types.specs.declared.Fp.{Fp}
@@ -15,27 +11,21 @@ use Rattle.vault_types.specs.declared.Row.{Row}
 use Rattle.vault_types.specs.declared.TableRow.{TableRow}
 use Rattle.vault_types.specs.declared.Table.{Table}
 use Rattle.vault_types.specs.declared.Recipe.{Recipe}
-use Rattle.vault_types.specs.Lists.{EachNext, IsAscending, set_of, has}
-use Rattle.vault_types.specs.Names.{fp, same_fp, IsFp}
-use Rattle.vault_types.specs.Tables.{Container, id_of, has_fp, IsTable}
-use Rattle.vault_types.specs.State.{State, Dataset, KeptVersion, empty_dataset, dataset, latest_in, latest_version, next_in, version_in, version_of, floor_of, latest_of, all_rows, named, container_in, HasFp, HasRecipeRules, IsDataset, IsValid}
-use Rattle.vault_types.specs.Bytes.{row_bytes, HasRow}
-use Rattle.vault_types.specs.Blobs.{IsRecipe}
+use Rattle.vault_types.specs.Lists.{IsAscending, set_of, has}
+use Rattle.vault_types.specs.Names.{same_fp}
+use Rattle.vault_types.specs.Tables.{Container, id_of, has_fp}
+use Rattle.vault_types.specs.State.{State, Dataset, KeptVersion, empty_dataset, dataset, version_in, version_of, all_rows, container_in, HasFp}
+use Rattle.vault_types.specs.Bytes.{HasRow}
 use Rattle.vault_types.specs.Shelf.{Blobs, blob_at, payload_name}
 use Rattle.vault_types.specs.Events.{version_in_recipe}
-use Rattle.vault_types.proofs.FillLemmas.{same_fps, bytes_eq-same}
-use Rattle.vault_types.proofs.SetLemmas.{has-set_of, IsAscending-set_of}
-use Rattle.sha1.specs.Sha1.{sha1}
-use Rattle.keeper_catalog.specs.declared.SetInfo.{SetInfo}
-use Rattle.keeper_catalog.specs.Catalog.{set_info}
+use Rattle.vault_types.proofs.FillLemmas.{bytes_eq-same}
+use Rattle.vault_types.proofs.SetLemmas.{has-set_of}
 use Rattle.keeper_open.specs.declared.notes.Chunk.{Chunk}
 use Rattle.keeper_open.specs.declared.notes.RowPlace.{RowPlace}
-use Rattle.vault_types.specs.FirstDamage.{ReadsRecipe, ReadsTable}
-use Rattle.keeper_open.specs.Reading.{SetRead, AreRecipes, AreRead, IsSetRead, AreSets, AreTables, all_recipes, rows_of, chunk_of, same_chunk, placed_rows, number_of, placed, AreFirst, has_chunk, some_has, left_of, last_next, last_sparse}
+use Rattle.keeper_open.specs.Reading.{SetRead, AreSets, all_recipes, rows_of_all, chunk_of_row, same_chunk, placed_rows, number_of, placed, has_chunk, some_has}
 use Rattle.keeper_open.proofs.Noting.{cons_cases, first_in, later_in, none_in, same_chunks, chunk_self}
-use Rattle.keeper_open.proofs.Gathering.{some_at, at_below, in_place, place_of, recipe_read, set_at, all_in, mapped_in}
-use Rattle.keeper_open.proofs.Damaging.{floor_version}
-use Rattle.keeper_open.proofs.SumBytes.{fp-is_fp}
+use Rattle.keeper_open.proofs.Gathering.{place_of, recipe_read}
+use Rattle.damage_laws.proofs.Elements.{some_at, in_place, all_in}
 
 abbrev pub container_of : Option Blobs → Table → Container
 container_of told t = record { table = t; payload = blob_at told (payload_name t.id) }
@@ -117,62 +107,62 @@ map_at f (y ∷ xs) x there = ⊎_elim
 
 -- rows
 
-version_rows : (cs : List Container) (rs : List Recipe) → flat_map (λ k. k.rows) (map (version_in_recipe cs) rs) ≡ rows_of rs
+version_rows : (cs : List Container) (rs : List Recipe) → flat_map (λ k. k.rows) (map (version_in_recipe cs) rs) ≡ rows_of_all rs
 version_rows cs [] = refl
 version_rows cs (r ∷ rs) = ap (λ (l : List Row). r.rows ++ l) (version_rows cs rs)
 
-pub all_rows_are : (cs : List Container) (ds : List SetRead) → all_rows (map (dataset_of cs) ds) ≡ rows_of (all_recipes ds)
+pub all_rows_are : (cs : List Container) (ds : List SetRead) → all_rows (map (dataset_of cs) ds) ≡ rows_of_all (all_recipes ds)
 all_rows_are cs [] = refl
 all_rows_are cs (d ∷ ds) =
-    ap (λ (l : List Row). l ++ all_rows (map (dataset_of cs) ds)) (version_rows cs d.recipes) ∙ ap (λ (l : List Row). rows_of d.recipes ++ l) (all_rows_are cs ds)
+    ap (λ (l : List Row). l ++ all_rows (map (dataset_of cs) ds)) (version_rows cs d.recipes) ∙ ap (λ (l : List Row). rows_of_all d.recipes ++ l) (all_rows_are cs ds)
     ∙ sym (flat_map-append (λ (r : Recipe). r.rows) d.recipes (all_recipes ds))
 
 -- each row has a place
-pub placed_row : (number i : ℕ) (rows : List Row) (j : ℕ) (row : Row) → slice_get rows j ≡ Some row → Contains (placed_rows number i rows) (chunk_of row, record { number = number; row = i + j })
+pub placed_row : (number i : ℕ) (rows : List Row) (j : ℕ) (row : Row) → slice_get rows j ≡ Some row → Contains (placed_rows number i rows) (chunk_of_row row, record { number = number; row = i + j })
 placed_row number i [] j row is = absurd (let clash : ◌≡◌ {A = Option Row} None (Some row) = is in cc)
 placed_row number i (r ∷ rows) zero row is =
     let same : r ≡ row = cc in
-    subst (λ (e : Chunk × RowPlace). Contains (placed_rows number i (r ∷ rows)) e) (λ k. (chunk_of (same k), record { number = number; row = (let e : i ≡ i + 0 = omega arith in e) k }))
-    (first_in (chunk_of r, record { number = number; row = i }) (placed_rows number (i + 1) rows))
+    subst (λ (e : Chunk × RowPlace). Contains (placed_rows number i (r ∷ rows)) e) (λ k. (chunk_of_row (same k), record { number = number; row = (let e : i ≡ i + 0 = omega arith in e) k }))
+    (first_in (chunk_of_row r, record { number = number; row = i }) (placed_rows number (i + 1) rows))
 placed_row number i (r ∷ rows) (suc j) row is =
-    later_in (chunk_of r, record { number = number; row = i }) (chunk_of row, record { number = number; row = i + suc j }) (placed_rows number (i + 1) rows)
-    (subst (λ (n : ℕ). Contains (placed_rows number (i + 1) rows) (chunk_of row, record { number = number; row = n })) (let e : i + 1 + j ≡ i + suc j = omega arith in e) (placed_row number (i + 1) rows j row is))
+    later_in (chunk_of_row r, record { number = number; row = i }) (chunk_of_row row, record { number = number; row = i + suc j }) (placed_rows number (i + 1) rows)
+    (subst (λ (n : ℕ). Contains (placed_rows number (i + 1) rows) (chunk_of_row row, record { number = number; row = n })) (let e : i + 1 + j ≡ i + suc j = omega arith in e) (placed_row number (i + 1) rows j row is))
 
-pub placed_recipe_row : (rs : List Recipe) (r : Recipe) (j : ℕ) (row : Row) → Contains rs r → slice_get r.rows j ≡ Some row → Contains (placed rs) (chunk_of row, record { number = number_of r; row = 0 + j })
+pub placed_recipe_row : (rs : List Recipe) (r : Recipe) (j : ℕ) (row : Row) → Contains rs r → slice_get r.rows j ≡ Some row → Contains (placed rs) (chunk_of_row row, record { number = number_of r; row = 0 + j })
 placed_recipe_row [] r j row there is = absurd (none_in r there)
 placed_recipe_row (q ∷ rs) r j row there is = ⊎_elim
-    (λ (here : q ≡ r). Contains-append_left (placed_rows (number_of q) 0 q.rows) (placed rs) (chunk_of row, record { number = number_of r; row = 0 + j })
-    (subst (λ (p : Recipe). Contains (placed_rows (number_of p) 0 p.rows) (chunk_of row, record { number = number_of r; row = 0 + j })) (sym here) (placed_row (number_of r) 0 r.rows j row is)))
-    (λ later. Contains-append_right (placed_rows (number_of q) 0 q.rows) (placed rs) (chunk_of row, record { number = number_of r; row = 0 + j }) (placed_recipe_row rs r j row later is))
+    (λ (here : q ≡ r). Contains-append_left (placed_rows (number_of q) 0 q.rows) (placed rs) (chunk_of_row row, record { number = number_of r; row = 0 + j })
+    (subst (λ (p : Recipe). Contains (placed_rows (number_of p) 0 p.rows) (chunk_of_row row, record { number = number_of r; row = 0 + j })) (sym here) (placed_row (number_of r) 0 r.rows j row is)))
+    (λ later. Contains-append_right (placed_rows (number_of q) 0 q.rows) (placed rs) (chunk_of_row row, record { number = number_of r; row = 0 + j }) (placed_recipe_row rs r j row later is))
     (cons_cases q r rs there)
 
 -- what stands at a place
-pub row_placed : (number i : ℕ) (rows : List Row) (k : Chunk) (p : RowPlace) → Contains (placed_rows number i rows) (k, p) → (j : ℕ) × (row : Row) × (slice_get rows j ≡ Some row) × (p.number ≡ number) × (p.row ≡ i + j) × (chunk_of row ≡ k)
+pub row_placed : (number i : ℕ) (rows : List Row) (k : Chunk) (p : RowPlace) → Contains (placed_rows number i rows) (k, p) → (j : ℕ) × (row : Row) × (slice_get rows j ≡ Some row) × (p.number ≡ number) × (p.row ≡ i + j) × (chunk_of_row row ≡ k)
 row_placed number i [] k p there = absurd (none_in (k, p) there)
 row_placed number i (r ∷ rows) k p there = ⊎_elim
     (λ here. (0, r, refl, ap (λ (e : Chunk × RowPlace). e.1.number) (sym here), ap (λ (e : Chunk × RowPlace). e.1.row) (sym here) ∙ (let e : i ≡ i + 0 = omega arith in e), ap (λ (e : Chunk × RowPlace). e.0) here))
     (λ later. let found = row_placed number (i + 1) rows k p later in (suc found.0, found.1, found.2, found.3, found.4 ∙ (let e : i + 1 + found.0 ≡ i + suc found.0 = omega arith in e), found.5))
-    (cons_cases (chunk_of r, record { number = number; row = i }) (k, p) (placed_rows number (i + 1) rows) there)
+    (cons_cases (chunk_of_row r, record { number = number; row = i }) (k, p) (placed_rows number (i + 1) rows) there)
 
-pub recipe_placed : (rs : List Recipe) (k : Chunk) (p : RowPlace) → Contains (placed rs) (k, p) → (r : Recipe) × (j : ℕ) × (row : Row) × Contains rs r × (slice_get r.rows j ≡ Some row) × (p.number ≡ number_of r) × (p.row ≡ j) × (chunk_of row ≡ k)
+pub recipe_placed : (rs : List Recipe) (k : Chunk) (p : RowPlace) → Contains (placed rs) (k, p) → (r : Recipe) × (j : ℕ) × (row : Row) × Contains rs r × (slice_get r.rows j ≡ Some row) × (p.number ≡ number_of r) × (p.row ≡ j) × (chunk_of_row row ≡ k)
 recipe_placed [] k p there = absurd (none_in (k, p) there)
 recipe_placed (q ∷ rs) k p there = ⊎_elim
     (λ own. let found = row_placed (number_of q) 0 q.rows k p own in (q, found.0, found.1, first_in q rs, found.2, found.3, found.4 ∙ (let e : 0 + found.0 ≡ found.0 = omega arith in e), found.5))
     (λ later. let found = recipe_placed rs k p later in (found.0, found.1, found.2, later_in q found.0 rs found.3, found.4, found.5, found.6, found.7))
     (Contains-append_cases (placed_rows (number_of q) 0 q.rows) (placed rs) (k, p) there)
 
-pub row_of_recipe : (rs : List Recipe) (row : Row) → Contains (rows_of rs) row → (r : Recipe) × Contains rs r × Contains r.rows row
+pub row_of_recipe : (rs : List Recipe) (row : Row) → Contains (rows_of_all rs) row → (r : Recipe) × Contains rs r × Contains r.rows row
 row_of_recipe [] row there = absurd (none_in row there)
 row_of_recipe (q ∷ rs) row there = ⊎_elim
     (λ own. (q, first_in q rs, own))
     (λ later. let found = row_of_recipe rs row later in (found.0, later_in q found.0 rs found.1, found.2))
-    (Contains-append_cases q.rows (rows_of rs) row there)
+    (Contains-append_cases q.rows (rows_of_all rs) row there)
 
-pub row_in_all : (rs : List Recipe) (r : Recipe) (row : Row) → Contains rs r → Contains r.rows row → Contains (rows_of rs) row
+pub row_in_all : (rs : List Recipe) (r : Recipe) (row : Row) → Contains rs r → Contains r.rows row → Contains (rows_of_all rs) row
 row_in_all [] r row there own = absurd (none_in r there)
 row_in_all (q ∷ rs) r row there own = ⊎_elim
-    (λ (here : q ≡ r). Contains-append_left q.rows (rows_of rs) row (subst (λ (p : Recipe). Contains p.rows row) (sym here) own))
-    (λ later. Contains-append_right q.rows (rows_of rs) row (row_in_all rs r row later own))
+    (λ (here : q ≡ r). Contains-append_left q.rows (rows_of_all rs) row (subst (λ (p : Recipe). Contains p.rows row) (sym here) own))
+    (λ later. Contains-append_right q.rows (rows_of_all rs) row (row_in_all rs r row later own))
     (cons_cases q r rs there)
 
 -- containers
@@ -215,24 +205,24 @@ ids_back told [] = refl
 ids_back told (t ∷ ts) = ap (λ (l : List ℕ). t.id ∷ l) (ids_back told ts)
 
 -- the table that has a chunk
-pub has_is : (ts : List Table) (row : Row) → some_has ts (chunk_of row) ≡ true → (t : Table) × Contains ts t × (t.id ≡ row.id) × Contains t.rows (record { fp = row.fp; len = row.len })
+pub has_is : (ts : List Table) (row : Row) → some_has ts (chunk_of_row row) ≡ true → (t : Table) × Contains ts t × (t.id ≡ row.id) × Contains t.rows (record { fp = row.fp; len = row.len })
 has_is ts row is =
-    let table = any_in (λ (t : Table). has_chunk t.id t.rows (chunk_of row)) ts is in
-    let entry = any_in (λ (r : TableRow). same_chunk (record { fp = r.fp; id = table.0.id; len = r.len }) (chunk_of row)) table.0.rows table.2 in
-    let same : record { fp = entry.0.fp; id = table.0.id; len = entry.0.len } ≡ chunk_of row = same_chunks (record { fp = entry.0.fp; id = table.0.id; len = entry.0.len }) (chunk_of row) entry.2 in
+    let table = any_in (λ (t : Table). has_chunk t.id t.rows (chunk_of_row row)) ts is in
+    let entry = any_in (λ (r : TableRow). same_chunk (record { fp = r.fp; id = table.0.id; len = r.len }) (chunk_of_row row)) table.0.rows table.2 in
+    let same : record { fp = entry.0.fp; id = table.0.id; len = entry.0.len } ≡ chunk_of_row row = same_chunks (record { fp = entry.0.fp; id = table.0.id; len = entry.0.len }) (chunk_of_row row) entry.2 in
     (table.0, table.1, ap (λ (k : Chunk). k.id) same, subst (λ (r : TableRow). Contains table.0.rows r) (λ i. record { fp = (same i).fp; len = (same i).len }) entry.1)
 
-pub is_has : (ts : List Table) (row : Row) (t : Table) → Contains ts t → t.id ≡ row.id → Contains t.rows (record { fp = row.fp; len = row.len }) → some_has ts (chunk_of row) ≡ true
+pub is_has : (ts : List Table) (row : Row) (t : Table) → Contains ts t → t.id ≡ row.id → Contains t.rows (record { fp = row.fp; len = row.len }) → some_has ts (chunk_of_row row) ≡ true
 is_has ts row t there id own =
-    any_at (λ (u : Table). has_chunk u.id u.rows (chunk_of row)) ts t there
-    (any_at (λ (r : TableRow). same_chunk (record { fp = r.fp; id = t.id; len = r.len }) (chunk_of row)) t.rows (record { fp = row.fp; len = row.len }) own
-    (ap (λ (c : ℕ). same_chunk (record { fp = row.fp; id = c; len = row.len }) (chunk_of row)) id ∙ chunk_self (chunk_of row)))
+    any_at (λ (u : Table). has_chunk u.id u.rows (chunk_of_row row)) ts t there
+    (any_at (λ (r : TableRow). same_chunk (record { fp = r.fp; id = t.id; len = r.len }) (chunk_of_row row)) t.rows (record { fp = row.fp; len = row.len }) own
+    (ap (λ (c : ℕ). same_chunk (record { fp = row.fp; id = c; len = row.len }) (chunk_of_row row)) id ∙ chunk_self (chunk_of_row row)))
 
 fp_in : (t : Table) (f : Fp) (len : ℕ) → Contains t.rows (record { fp = f; len = len }) → has_fp f t ≡ true
 fp_in t f len own = any_at (λ (r : TableRow). same_fp r.fp f) t.rows (record { fp = f; len = len }) own (bytes_eq-same f.0)
 
 -- a row whose chunk a table has
-pub row_stands : (told : Option Blobs) (ts : List Table) (row : Row) → IsAscending (map (λ u. u.id) ts) → some_has ts (chunk_of row) ≡ true → HasFp (containers_in told ts) row × HasRow (containers_in told ts) row
+pub row_stands : (told : Option Blobs) (ts : List Table) (row : Row) → IsAscending (map (λ u. u.id) ts) → some_has ts (chunk_of_row row) ≡ true → HasFp (containers_in told ts) row × HasRow (containers_in told ts) row
 row_stands told ts row up is =
     let found = has_is ts row is in
     let at : container_in (containers_in told ts) row.id ≡ Some (container_of told found.0) =

@@ -1,6 +1,6 @@
 -- The state that was read is valid, the blobs stand for it, and the memory is that of it.
-use Rattle.std.proofs.Common.{◌≡◌, ◌≢◌, ◌⊎◌, inl, inr, ⊎_elim, ℕ, zero, suc, ◌+◌, ◌-◌, ◌*◌, ◌^◌, ◌<◌, ◌≤◌, Bool, true, false, cond, List, [], ◌∷◌, ◌++◌, map, flat_map, length, Option, Some, None, refl, sym, ap, subst, ◌∙◌, arith}
-use Rattle.std.specs.Prelude.{Contains, IsSome, IfSome, IsSomeAnd, MatchOption, option_map, unwrap_or, slice_get, find, ◌==◌}
+use Rattle.std.proofs.Common.{◌≡◌, inl, inr, ⊎_elim, ℕ, ◌+◌, ◌-◌, ◌<◌, ◌≤◌, true, List, [], ◌∷◌, ◌++◌, map, length, Option, Some, None, refl, sym, ap, subst, ◌∙◌, arith}
+use Rattle.std.specs.Prelude.{Contains, IfSome, MatchOption, option_map, unwrap_or, slice_get, find, ◌==◌}
 use Rattle.std.specs.Option.{option_map_or}
 use Rattle.std.specs.List.{AllByRecursion, last_or}
 use Rattle.std.specs.FinMap as fin
@@ -8,30 +8,28 @@ use Rattle.std.proofs.lemmas.Bool.{cases_lt}
 use Rattle.std.proofs.lemmas.List.{append-nil}
 use Rattle.std.proofs.lemmas.List.Elements.{Contains-append_left, Contains-append_right, Contains-append_cases}
 use Rattle.vault_types.specs.declared.Fp.{Fp}
-use Rattle.vault_types.specs.declared.Name.{Name}
 use Rattle.vault_types.specs.declared.Row.{Row}
 use Rattle.vault_types.specs.declared.Table.{Table}
 use Rattle.vault_types.specs.declared.Recipe.{Recipe}
 use Rattle.vault_types.specs.Lists.{EachNext, IsAscending, set_of}
 use Rattle.vault_types.specs.Marks.{Mark, marks_of}
 use Rattle.vault_types.specs.Names.{fp, IsFp}
-use Rattle.vault_types.specs.Tables.{Container, id_of, IsTable}
-use Rattle.vault_types.specs.State.{State, Dataset, KeptVersion, dataset, latest_in, latest_version, next_in, version_of, floor_of, latest_of, all_rows, container_in, length_of, recipe_of, HasFp, HasRecipeRules, IsDataset, IsValid}
-use Rattle.vault_types.specs.Bytes.{row_bytes, bytes_of, HasRow}
-use Rattle.vault_types.specs.Blobs.{recipe_bytes, recipe_bytes_1, recipe_bytes_2, floor_bytes, table_bytes, IsRecipe, SpellsFloor, SpellsRecipe}
-use Rattle.vault_types.specs.Shelf.{Blobs, floor_name, recipe_name, table_name, IsFloorBlob, IsRecipeBlob, HasContainer, Stands}
+use Rattle.vault_types.specs.Tables.{Container, IsTable}
+use Rattle.vault_types.specs.State.{State, Dataset, KeptVersion, latest_in, latest_version, next_in, version_of, latest_of, all_rows, container_in, length_of, recipe_of, HasFp, HasRecipeRules, IsDataset, IsValid}
+use Rattle.vault_types.specs.Bytes.{row_bytes, HasRow}
+use Rattle.vault_types.specs.Blobs.{recipe_bytes_1, recipe_bytes_2, IsRecipe, SpellsFloor}
+use Rattle.vault_types.specs.Shelf.{Blobs, floor_name, recipe_name, IsFloorBlob, IsRecipeBlob, HasContainer, Stands}
 use Rattle.vault_types.specs.Events.{version_in_recipe}
 use Rattle.vault_types.proofs.SetLemmas.{IsAscending-set_of}
 use Rattle.sha1.specs.Sha1.{sha1}
-use Rattle.set_markers.specs.SetMarkers.{Marked, AreMarkersOfSets}
-use Rattle.keeper_catalog.specs.declared.SetInfo.{SetInfo}
 use Rattle.keeper_catalog.specs.Catalog.{set_info, table_at, Names, AreMarks}
 use Rattle.vault_types.specs.FirstDamage.{Opens, ReadsRecipe, ReadsTable}
-use Rattle.keeper_open.specs.Reading.{SetRead, AreRecipes, IsSetRead, AreSets, AreTables, all_recipes, rows_of, marks_in, chunk_of, some_has, last_next, last_sparse}
+use Rattle.keeper_open.specs.Reading.{SetRead, AreRecipes, IsSetRead, AreSets, AreReadTables, all_recipes, rows_of_all, marks_in, chunk_of_row, some_has}
 use Rattle.keeper_open.proofs.Noting.{cons_cases, first_in, later_in, none_in}
-use Rattle.keeper_open.proofs.Gathering.{some_at, recipe_read, set_at, mapped_in, all_in}
+use Rattle.keeper_open.proofs.Gathering.{recipe_read, set_at, mapped_in}
+use Rattle.damage_laws.proofs.Elements.{some_at, all_in}
 use Rattle.keeper_open.proofs.Damaging.{floor_version}
-use Rattle.keeper_open.proofs.SumBytes.{fp-is_fp}
+use Rattle.vault_types.proofs.SumLemmas.{fp-is_fp}
 use Rattle.keeper_open.proofs.Stated.{container_of, containers_in, dataset_of, state_of, all_from, length_map, all_rows_are, container_found, ids_back, row_stands, dataset_is, version_is, version_back, located, recipe_among, set_in, in_set, map_at}
 
 -- datasets
@@ -76,7 +74,7 @@ sets_valid : (cs : List Container) (told : Option Blobs) (s : ℕ) (ds : List Se
 sets_valid cs told s [] all = tt
 sets_valid cs told s (d ∷ ds) all = (dataset_valid cs told s d all.0, sets_valid cs told (s + 1) ds all.1)
 
-tables_valid : (told : Option Blobs) (ts : List Table) → AreTables told ts → AllByRecursion (λ c. IsTable c.table) (containers_in told ts)
+tables_valid : (told : Option Blobs) (ts : List Table) → AreReadTables told ts → AllByRecursion (λ c. IsTable c.table) (containers_in told ts)
 tables_valid told [] all = tt
 tables_valid told (t ∷ ts) all = (all.0.2.rules, tables_valid told ts all.1)
 
@@ -145,7 +143,7 @@ is_mark (q ∷ rs) r c there own = ⊎_elim
 
 -- the state
 
-module _ (told : Option Blobs) (ds : List SetRead) (ts : List Table) (read : AreSets told 0 ds) (count : length ds ≡ 256) (tables : AreTables told ts) (ids : map (λ t. t.id) ts ≡ set_of (map (λ r. r.id) (rows_of (all_recipes ds)))) (rows : (r : Row) → Contains (rows_of (all_recipes ds)) r → some_has ts (chunk_of r) ≡ true) where
+module _ (told : Option Blobs) (ds : List SetRead) (ts : List Table) (read : AreSets told 0 ds) (count : length ds ≡ 256) (tables : AreReadTables told ts) (ids : map (λ t. t.id) ts ≡ set_of (map (λ r. r.id) (rows_of_all (all_recipes ds)))) (rows : (r : Row) → Contains (rows_of_all (all_recipes ds)) r → some_has ts (chunk_of_row r) ≡ true) where
   abbrev T : State
   T = state_of told ds ts
 
@@ -153,7 +151,7 @@ module _ (told : Option Blobs) (ds : List SetRead) (ts : List Table) (read : Are
   cs = containers_in told ts
 
   up : IsAscending (map (λ t. t.id) ts)
-  up = subst IsAscending (sym ids) (IsAscending-set_of (map (λ r. r.id) (rows_of (all_recipes ds))))
+  up = subst IsAscending (sym ids) (IsAscending-set_of (map (λ r. r.id) (rows_of_all (all_recipes ds))))
 
   pub valid_state : IsValid T
   valid_state = record {
@@ -161,11 +159,11 @@ module _ (told : Option Blobs) (ds : List SetRead) (ts : List Table) (read : Are
     datasets = sets_valid cs told 0 ds read;
     containers = ids_back told ts ∙ ids ∙ ap (λ (l : List Row). set_of (map (λ r. r.id) l)) (sym (all_rows_are cs ds));
     tables = tables_valid told ts tables;
-    rows = subst (λ (l : List Row). AllByRecursion (HasFp cs) l) (sym (all_rows_are cs ds)) (all_from (HasFp cs) (rows_of (all_recipes ds)) (λ r there. (row_stands told ts r up (rows r there)).0));
+    rows = subst (λ (l : List Row). AllByRecursion (HasFp cs) l) (sym (all_rows_are cs ds)) (all_from (HasFp cs) (rows_of_all (all_recipes ds)) (λ r there. (row_stands told ts r up (rows r there)).0));
   }
 
   pub rows_stand : AllByRecursion (HasRow cs) (all_rows T.datasets)
-  rows_stand = subst (λ (l : List Row). AllByRecursion (HasRow cs) l) (sym (all_rows_are cs ds)) (all_from (HasRow cs) (rows_of (all_recipes ds)) (λ r there. (row_stands told ts r up (rows r there)).1))
+  rows_stand = subst (λ (l : List Row). AllByRecursion (HasRow cs) l) (sym (all_rows_are cs ds)) (all_from (HasRow cs) (rows_of_all (all_recipes ds)) (λ r there. (row_stands told ts r up (rows r there)).1))
 
   -- a kept version's recipe
   pub read_back : (s v : ℕ) (k : KeptVersion) → version_of T s v ≡ Some k → (r : Recipe) × Contains (all_recipes ds) r × ReadsRecipe told s v r × (k ≡ version_in_recipe cs r)
@@ -218,7 +216,7 @@ bytes_of_2 cs s v r w set version total = λ i. recipe_bytes_2 w (record { set =
 bytes_of_1 : (cs : List Container) (s v : ℕ) (r : Recipe) → r.set ≡ s → r.version ≡ v → r.length ≡ length_of r.rows → recipe_bytes_1 r ≡ recipe_bytes_1 (recipe_of s v (version_in_recipe cs r))
 bytes_of_1 cs s v r set version total = λ i. recipe_bytes_1 (record { set = set i; version = version i; next = r.next; length = total i; rows = r.rows; sparse = r.sparse; whole = None })
 
-module _ (m : Blobs) (ds : List SetRead) (ts : List Table) (read : AreSets (Some m) 0 ds) (count : length ds ≡ 256) (tables : AreTables (Some m) ts) (ids : map (λ t. t.id) ts ≡ set_of (map (λ r. r.id) (rows_of (all_recipes ds)))) (rows : (r : Row) → Contains (rows_of (all_recipes ds)) r → some_has ts (chunk_of r) ≡ true) where
+module _ (m : Blobs) (ds : List SetRead) (ts : List Table) (read : AreSets (Some m) 0 ds) (count : length ds ≡ 256) (tables : AreReadTables (Some m) ts) (ids : map (λ t. t.id) ts ≡ set_of (map (λ r. r.id) (rows_of_all (all_recipes ds)))) (rows : (r : Row) → Contains (rows_of_all (all_recipes ds)) r → some_has ts (chunk_of_row r) ≡ true) where
   abbrev U : State
   U = state_of (Some m) ds ts
 

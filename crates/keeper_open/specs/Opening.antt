@@ -12,9 +12,10 @@ use Rattle.keeper_catalog.specs.Catalog.{memo_of, IsMemoOf, HasRoom}
 use Rattle.vault_types.specs.FirstDamage.{Opens}
 use Rattle.keeper_catalog.specs.View.{opened_core}
 
--- the catalog and the index are those of the state, as which the blobs open, where they are told; the strays are on the
--- shelf, and the lists have the room that later calls need
-pub record IsOpened (told : Option Blobs) (T : State) (catalog : Catalog) (found : List (Fp × List ℕ)) : Type 0 where
+-- the catalog and the index are those of the state, as which the blobs open, where they are told;
+-- the strays are on the shelf, and the lists have the room that later calls need
+pub record IsStoreOpened (told : Option Blobs) (T : State) (catalog : Catalog)
+    (found : List (Fp × List ℕ)) : Type 0 where
   pub valid : IsValid T
   pub opens : IfSome told (λ m. Opens m T)
   pub held : HeldIfTold told (opened_core T catalog.strays.items)

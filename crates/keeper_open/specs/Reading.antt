@@ -40,7 +40,9 @@ AreFloors told s (floor ∷ floors) = IsFloorIn told s floor × AreFloors told (
 -- the greatest version of the set that is listed
 abbrev pub IsLastListed : Blobs → ℕ → Option ℕ → Type 0
 IsLastListed m s None = (v : ℕ) → v ≤ 4294967294 → fin.get m (recipe_name s v) ≡ None
-IsLastListed m s (Some w) = IsSome (fin.get m (recipe_name s w)) × ((v : ℕ) → w < v → v ≤ 4294967294 → fin.get m (recipe_name s v) ≡ None)
+IsLastListed m s (Some w) =
+    IsSome (fin.get m (recipe_name s w))
+    × ((v : ℕ) → w < v → v ≤ 4294967294 → fin.get m (recipe_name s v) ≡ None)
 
 -- the last version that is to be read
 pub record IsLastDue (m : Blobs) (s floor latest : ℕ) : Type 0 where
@@ -59,7 +61,7 @@ abbrev pub last_sparse : List Recipe → List ℕ
 last_sparse rs = option_map_or (λ r. r.sparse) (last_or None rs) []
 
 -- these are the recipes of the first versions of the set
-pub record AreRead (told : Option Blobs) (s floor : ℕ) (rs : List Recipe) : Type 0 where
+pub record AreReadInOrder (told : Option Blobs) (s floor : ℕ) (rs : List Recipe) : Type 0 where
   pub recipes : AreRecipes told s floor rs
   pub rising : EachNext (λ q r. q.next ≤ r.next) rs
 
@@ -69,28 +71,31 @@ pub record IsSetRead (told : Option Blobs) (s : ℕ) (info : SetInfo) (rs : List
   pub low : 1 < info.floor → info.floor ≤ info.latest
   pub high : info.latest ≤ 4294967294
   pub count : info.floor + length rs ≡ info.latest + 1
-  pub read : AreRead told s info.floor rs
+  pub read : AreReadInOrder told s info.floor rs
   pub next : info.next ≡ last_next rs
   pub sparse : info.sparse ≡ last_sparse rs
 
 -- what is wrong with version v of a set, where its `next` may not be below low
 abbrev pub IsVersionWhy : Option Blobs → ℕ → ℕ → ℕ → Why → Type 0
-IsVersionWhy told s v low (why.Lower before found) = (before ≡ low) × ((r : Recipe) × ReadsRecipe told s v r × (r.next ≡ found) × (found < before))
+IsVersionWhy told s v low (why.Lower before found) =
+    (before ≡ low) × ((r : Recipe) × ReadsRecipe told s v r × (r.next ≡ found) × (found < before))
 IsVersionWhy told s v low other = IsRecipeWhy told s v other
 
 abbrev pub IsVersionDamage : Option Blobs → ℕ → ℕ → ℕ → Kind → ℕ → Why → Type 0
-IsVersionDamage told s v low kind.Recipe number w = (number ≡ (recipe_name s v).number) × IsVersionWhy told s v low w
+IsVersionDamage told s v low kind.Recipe number w =
+    (number ≡ (recipe_name s v).number) × IsVersionWhy told s v low w
 IsVersionDamage told s v low other number w = ⊥
 
 -- the version behind these of the set is to be read, and is bad
 pub record IsSetFirst (m : Blobs) (s floor : ℕ) (rs : List Recipe) (number : ℕ) (w : Why) : Type 0 where
-  pub read : AreRead (Some m) s floor rs
+  pub read : AreReadInOrder (Some m) s floor rs
   pub due : IsDueFrom m s floor (floor + length rs)
   pub last : floor + length rs ≤ 4294967294
   pub is : IsVersionDamage (Some m) s (floor + length rs) (last_next rs) kind.Recipe number w
 
 abbrev pub IsSetDamage : Option Blobs → ℕ → ℕ → Kind → ℕ → Why → Type 0
-IsSetDamage told s floor kind.Recipe number w = MatchOption told (IsOpeningWhy kind.Recipe w) (λ m. (rs : List Recipe) × IsSetFirst m s floor rs number w)
+IsSetDamage told s floor kind.Recipe number w =
+    MatchOption told (IsOpeningWhy kind.Recipe w) (λ m. (rs : List Recipe) × IsSetFirst m s floor rs number w)
 IsSetDamage told s floor other number w = ⊥
 
 -- a set, with the recipes that were read of it
@@ -107,14 +112,14 @@ all_recipes ds = flat_map (λ d. d.recipes) ds
 
 -- what is noted of recipes
 
-abbrev pub rows_of : List Recipe → List Row
-rows_of rs = flat_map (λ r. r.rows) rs
+abbrev pub rows_of_all : List Recipe → List Row
+rows_of_all rs = flat_map (λ r. r.rows) rs
 
 abbrev pub marks_in : List Recipe → List Mark
 marks_in rs = flat_map (λ r. marks_of r.set r.version (set_of (map (λ q. q.id) r.rows))) rs
 
-abbrev pub chunk_of : Row → Chunk
-chunk_of r = record { fp = r.fp; id = r.id; len = r.len }
+abbrev pub chunk_of_row : Row → Chunk
+chunk_of_row r = record { fp = r.fp; id = r.id; len = r.len }
 
 abbrev pub same_chunk : Chunk → Chunk → Bool
 same_chunk a b = same_fp a.fp b.fp && (nat_eq a.id b.id && nat_eq a.len b.len)
@@ -122,7 +127,8 @@ same_chunk a b = same_fp a.fp b.fp && (nat_eq a.id b.id && nat_eq a.len b.len)
 -- the rows with their places, from row i on
 abbrev pub placed_rows : ℕ → ℕ → List Row → List (Chunk × RowPlace)
 placed_rows number i [] = []
-placed_rows number i (r ∷ rows) = (chunk_of r, record { number = number; row = i }) ∷ placed_rows number (i + 1) rows
+placed_rows number i (r ∷ rows) =
+    (chunk_of_row r, record { number = number; row = i }) ∷ placed_rows number (i + 1) rows
 
 abbrev pub number_of : Recipe → ℕ
 number_of r = r.set * 2 ^ 32 + r.version
@@ -141,7 +147,8 @@ IsLesserOf (Some a) b p = ((p ≡ a) ⊎ (p ≡ b)) × IsNotAfter p a × IsNotAf
 -- the entries have for each chunk the first of these places
 pub record AreFirst (entries : List (Chunk × RowPlace)) (places : List (Chunk × RowPlace)) : Type 0 where
   pub sound : (k : Chunk) (p : RowPlace) → lookup (same_chunk k) entries ≡ Some p → Contains places (k, p)
-  pub first : (k : Chunk) (p : RowPlace) → Contains places (k, p) → (q : RowPlace) × (lookup (same_chunk k) entries ≡ Some q) × IsNotAfter q p
+  pub first : (k : Chunk) (p : RowPlace) → Contains places (k, p)
+      → (q : RowPlace) × (lookup (same_chunk k) entries ≡ Some q) × IsNotAfter q p
 
 -- all places are before this one
 abbrev pub ArePlacesBefore : List (Chunk × RowPlace) → RowPlace → Type 0
@@ -152,17 +159,18 @@ AreBelow rs number = (r : Recipe) → Contains rs r → number_of r < number
 
 pub record AreNoted (notes : Notes) (rs : List Recipe) : Type 0 where
   pub markers : AreMarkersOfSets notes.markers (marks_in rs)
-  pub ids : notes.ids.keys ≡ set_of (map (λ r. r.id) (rows_of rs))
+  pub ids : notes.ids.keys ≡ set_of (map (λ r. r.id) (rows_of_all rs))
   pub places : AreFirst notes.places.entries (placed rs)
 
 -- the recipes were noted behind those before
 abbrev pub NotesMore : Notes → Notes → ℕ → List Recipe → Type 0
-NotesMore old new number rs = (before : List Recipe) → AreBelow before number → AreNoted old before → AreNoted new (before ++ rs)
+NotesMore old new number rs =
+    (before : List Recipe) → AreBelow before number → AreNoted old before → AreNoted new (before ++ rs)
 
 -- tables
 
-abbrev pub AreTables : Option Blobs → List Table → Type 0
-AreTables told ts = AllByRecursion (λ t. ReadsTable told t.id t) ts
+abbrev pub AreReadTables : Option Blobs → List Table → Type 0
+AreReadTables told ts = AllByRecursion (λ t. ReadsTable told t.id t) ts
 
 -- the table of container id has the chunk
 abbrev pub has_chunk : ℕ → List TableRow → Chunk → Bool
@@ -177,21 +185,27 @@ left_of gone p = if gone then None else p
 
 -- the first table of these ids that is bad
 abbrev pub IsFirstTable : Option Blobs → List ℕ → Kind → ℕ → Why → Type 0
-IsFirstTable told ids kind.Table number w = Contains ids number × IsTableWhy told number w × ((c : ℕ) → c < number → Contains ids c → (t : Table) × ReadsTable told c t)
+IsFirstTable told ids kind.Table number w =
+    Contains ids number × IsTableWhy told number w
+    × ((c : ℕ) → c < number → Contains ids c → (t : Table) × ReadsTable told c t)
 IsFirstTable told ids other number w = ⊥
 
 -- the tables of these ids, in memory; of the places those are left whose chunk is in none of them
-pub record IsFound (told : Option Blobs) (ids : List ℕ) (places : List (Chunk × RowPlace)) (found : Found) (ts : List Table) : Type 0 where
-  pub read : AreTables told ts
+pub record IsFound (told : Option Blobs) (ids : List ℕ) (places : List (Chunk × RowPlace)) (found : Found)
+    (ts : List Table) : Type 0 where
+  pub read : AreReadTables told ts
   pub of : map (λ t. t.id) ts ≡ ids
   pub tables : (c : ℕ) → table_at found.tables.entries c ≡ find (λ t. t.id == c) ts
   pub index : IsIndexOf found.index ts
-  pub left : (k : Chunk) → lookup (same_chunk k) found.places.entries ≡ left_of (some_has ts k) (lookup (same_chunk k) places)
+  pub left : (k : Chunk)
+      → lookup (same_chunk k) found.places.entries ≡ left_of (some_has ts k) (lookup (same_chunk k) places)
 
 -- names that a store with these sets and tables needs
 
 abbrev pub keeps : List SetInfo → ℕ → Bool
-keeps sets number = option_map_or (λ i. nat_le i.floor (number % 2 ^ 32) && nat_le (number % 2 ^ 32) i.latest) (slice_get sets (number / 2 ^ 32)) false
+keeps sets number =
+    option_map_or (λ i. nat_le i.floor (number % 2 ^ 32) && nat_le (number % 2 ^ 32) i.latest)
+    (slice_get sets (number / 2 ^ 32)) false
 
 abbrev pub needs_number : List SetInfo → List (ℕ × Table) → Kind → ℕ → Bool
 needs_number sets tables kind.Table number = is_some (table_at tables number)

@@ -21,18 +21,15 @@
 //! the work grows as the names, the rows of recipes and the rows of tables do.
 #![tactic(auto)]
 
-ghost use Rattle.std.specs.Prelude.{◌≡◌, ℕ, IfOk};
+ghost use Rattle.std.specs.Prelude.{◌≡◌, IfOk};
 ghost use Rattle.vault_types.specs.declared.Fault.TheVariants as fault;
-ghost use Rattle.vault_types.specs.declared.Kind.{Kind as Kinds};
-ghost use Rattle.vault_types.specs.declared.Why.{Why as Whys};
 ghost use Rattle.vault_types.specs.declared.Kind.TheVariants as kind;
 ghost use Rattle.vault_types.specs.declared.Why.TheVariants as why;
 ghost use Rattle.vault_types.specs.State.{State};
 ghost use Rattle.vault_traits.specs.Shelf.{IsAsBefore};
 ghost use Rattle.vault_traits.specs.Causes.{HasCauses};
-ghost use Rattle.vault_types.specs.Shelf.{Blobs};
-ghost use Rattle.vault_types.specs.FirstDamage.{Opens, IsFirstDamage, IsDamageOf};
-ghost use Rattle.keeper_open.specs.Opening.{IsOpened};
+ghost use Rattle.vault_types.specs.FirstDamage.{IsDamageOf};
+ghost use Rattle.keeper_open.specs.Opening.{IsStoreOpened};
 
 mod listing;
 mod notes;
@@ -64,10 +61,12 @@ pub struct Opened {
 /// `StoreFault` with the count of faults of the shelf; `Damaged` with the first place that is bad; `Memory`. Whatever is
 /// answered, the blobs are as before.
 pub fn open<S: Shelf>(alloc: Global, shelf: &mut S) -> Result<Opened, Fault>
-    ensures opened { IfOk result (λ o. (T : State) × IsOpened (S.told shelf.old).blobs T o.catalog o.index) }
+    ensures opened { IfOk result (λ o. (T : State)
+        × IsStoreOpened (S.told shelf.old).blobs T o.catalog o.index) }
     ensures kept { IsAsBefore (S.told shelf.old) (S.told shelf.new) }
     ensures gets { (S.told shelf.new).gets ≡ (S.told shelf.old).gets }
-    ensures causes { HasCauses (S.told shelf.old).faults (S.told shelf.new).faults (IsDamageOf (S.told shelf.old).blobs) result }
+    ensures causes { HasCauses (S.told shelf.old).faults (S.told shelf.new).faults
+        (IsDamageOf (S.told shelf.old).blobs) result }
 {
     let names = survey(alloc, shelf)?;
     let floors = read_floors(alloc, shelf, names.as_slice())?;
@@ -108,8 +107,3 @@ fn bad_row(place: RowPlace) -> Fault
         why: Why::BadRow(place.row),
     }
 }
-
-/// Blobs of which a place is damaged first open as no state: what is told as damage is in the way of every state.
-pub fn damaged_blobs_open_as_no_state()
-    ensures { (m : Blobs) (k : Kinds) (n : ℕ) (w : Whys) (T : State) → IsFirstDamage m k n w → Opens m T → ⊥ }
-{}

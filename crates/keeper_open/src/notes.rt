@@ -5,7 +5,7 @@ ghost use Rattle.vault_types.specs.declared.Recipe.{Recipe as Recipes};
 ghost use Rattle.vault_types.specs.Lists.{set_of};
 ghost use Rattle.keeper_open.specs.declared.notes.Chunk.{Chunk as Chunks};
 ghost use Rattle.keeper_open.specs.declared.notes.RowPlace.{RowPlace as Places};
-ghost use Rattle.keeper_open.specs.Reading.{chunk_of, same_chunk, placed_rows, number_of, has_chunk, left_of, IsNotAfter, IsLesserOf, AreFirst, ArePlacesBefore, AreBelow, AreNoted};
+ghost use Rattle.keeper_open.specs.Reading.{chunk_of_row, same_chunk, placed_rows, number_of, has_chunk, left_of, IsNotAfter, IsLesserOf, AreFirst, ArePlacesBefore, AreBelow, AreNoted};
 
 use keeper_catalog::distinct_ids;
 use set_markers::SetMarkers;
@@ -52,7 +52,8 @@ impl Notes {
 /// Notes a recipe.
 pub fn note(alloc: Global, notes: &mut Notes, recipe: &Recipe) -> Result<(), Memory>
     requires { length recipe.now.rows < 2 ^ 32 }
-    ensures { (before : List Recipes) → AreBelow before (number_of recipe.now) → AreNoted notes.old before → OnOk result (AreNoted notes.new (before ++ recipe.now ∷ [])) }
+    ensures { (before : List Recipes) → AreBelow before (number_of recipe.now) → AreNoted notes.old before
+        → OnOk result (AreNoted notes.new (before ++ recipe.now ∷ [])) }
 {
     let rows = recipe.rows.as_slice();
     let ids = distinct_ids(alloc, rows)?;
@@ -67,7 +68,8 @@ pub fn note(alloc: Global, notes: &mut Notes, recipe: &Recipe) -> Result<(), Mem
 }
 
 fn add_ids(all: &mut BTreeSet<Id>, ids: &[Id]) -> Result<(), Memory>
-    ensures { (before : List ℕ) → all.old.keys ≡ set_of before → OnOk result (all.new.keys ≡ set_of (before ++ ids.now)) }
+    ensures { (before : List ℕ) → all.old.keys ≡ set_of before
+        → OnOk result (all.new.keys ≡ set_of (before ++ ids.now)) }
 {
     for id in ids {
         all.insert(*id)?;
@@ -88,7 +90,8 @@ pub fn list_of(alloc: Global, ids: &BTreeSet<Id>) -> Result<Vec<Id>, Memory>
 
 fn add_rows(places: &mut HashMap<Chunk, RowPlace>, number: u64, rows: &[Row]) -> Result<(), Memory>
     requires { length rows.now < 2 ^ 32 }
-    ensures { (before : List (Chunks × Places)) → AreFirst places.old.entries before → ArePlacesBefore before (record { number = number; row = 0 })
+    ensures { (before : List (Chunks × Places)) → AreFirst places.old.entries before
+        → ArePlacesBefore before (record { number = number; row = 0 })
         → OnOk result (AreFirst places.new.entries (before ++ placed_rows number 0 rows.now)) }
 {
     for (at, row) in rows.iter().enumerate() {
@@ -102,7 +105,7 @@ fn add_rows(places: &mut HashMap<Chunk, RowPlace>, number: u64, rows: &[Row]) ->
 }
 
 fn chunk_of(row: &Row) -> Chunk
-    ensures { result ≡ chunk_of row.now }
+    ensures { result ≡ chunk_of_row row.now }
 {
     Chunk {
         fp: row.fp,
@@ -117,7 +120,8 @@ fn add_row(
     chunk: Chunk,
     place: RowPlace,
 ) -> Result<(), Memory>
-    ensures { (before : List (Chunks × Places)) → AreFirst places.old.entries before → ArePlacesBefore before place
+    ensures { (before : List (Chunks × Places)) → AreFirst places.old.entries before
+        → ArePlacesBefore before place
         → OnOk result (AreFirst places.new.entries (before ++ (chunk, place) ∷ [])) }
 {
     if !places.contains_key(&chunk) {
@@ -128,7 +132,9 @@ fn add_row(
 
 /// Takes the chunks out that a table of container `id` has.
 pub fn strike(places: &mut HashMap<Chunk, RowPlace>, id: Id, rows: &[TableRow])
-    ensures { (k : Chunks) → lookup (same_chunk k) places.new.entries ≡ left_of (has_chunk id rows.now k) (lookup (same_chunk k) places.old.entries) }
+    ensures { (k : Chunks)
+        → lookup (same_chunk k) places.new.entries
+        ≡ left_of (has_chunk id rows.now k) (lookup (same_chunk k) places.old.entries) }
 {
     for row in rows {
         let chunk = Chunk {
@@ -144,7 +150,8 @@ pub fn strike(places: &mut HashMap<Chunk, RowPlace>, id: Id, rows: &[TableRow])
 pub fn least(places: &HashMap<Chunk, RowPlace>) -> Option<RowPlace>
     ensures none { IfNone result ((k : Chunks) → lookup (same_chunk k) places.now.entries ≡ None) }
     ensures some { IfSome result (λ p. (k : Chunks) × (lookup (same_chunk k) places.now.entries ≡ Some p)) }
-    ensures least { IfSome result (λ p. (k : Chunks) (q : Places) → lookup (same_chunk k) places.now.entries ≡ Some q → IsNotAfter p q) }
+    ensures least { IfSome result (λ p. (k : Chunks) (q : Places)
+        → lookup (same_chunk k) places.now.entries ≡ Some q → IsNotAfter p q) }
 {
     let mut best = None;
     for place in places.values() {

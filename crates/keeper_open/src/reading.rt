@@ -30,10 +30,12 @@ pub fn read_floors<S: Shelf>(
     names: &[Name],
 ) -> Result<Vec<Version>, Fault>
     requires listing { IfSome (S.told shelf.old).blobs (λ m. IsListing m names.now) }
-    ensures read { IfOk result (λ floors. AreFloors (S.told shelf.old).blobs 0 floors.items × (length floors.items ≡ 256)) }
+    ensures read { IfOk result (λ floors. AreFloors (S.told shelf.old).blobs 0 floors.items
+        × (length floors.items ≡ 256)) }
     ensures kept { IsAsBefore (S.told shelf.old) (S.told shelf.new) }
     ensures gets { (S.told shelf.new).gets ≡ (S.told shelf.old).gets }
-    ensures causes { HasCauses (S.told shelf.old).faults (S.told shelf.new).faults (IsDamageOf (S.told shelf.old).blobs) result }
+    ensures causes { HasCauses (S.told shelf.old).faults (S.told shelf.new).faults
+        (IsDamageOf (S.told shelf.old).blobs) result }
 {
     let mut floors = Vec::new(alloc);
     for number in 0..256u32 {
@@ -53,7 +55,8 @@ fn floor_in<S: Shelf>(
     ensures found { IfOk result (λ floor. IsFloorIn (S.told shelf.old).blobs set floor) }
     ensures kept { IsAsBefore (S.told shelf.old) (S.told shelf.new) }
     ensures gets { (S.told shelf.new).gets ≡ (S.told shelf.old).gets }
-    ensures causes { HasCauses (S.told shelf.old).faults (S.told shelf.new).faults (IsFloorDamage (S.told shelf.old).blobs set) result }
+    ensures causes { HasCauses (S.told shelf.old).faults (S.told shelf.new).faults
+        (IsFloorDamage (S.told shelf.old).blobs set) result }
 {
     if is_listed(names, Name::floor(set)) {
         get_floor(alloc, shelf, set)
@@ -73,11 +76,13 @@ pub fn read_sets<S: Shelf>(
     requires listing { IfSome (S.told shelf.old).blobs (λ m. IsListing m names.now) }
     requires floors { AreFloors (S.told shelf.old).blobs 0 floors.now }
     requires count { length floors.now ≡ 256 }
-    ensures read { IfOk result (λ sets. (ds : List SetRead) × (map (λ d. d.info) ds ≡ sets.items) × (length ds ≡ 256) × AreSets (S.told shelf.old).blobs 0 ds
+    ensures read { IfOk result (λ sets. (ds : List SetRead) × (map (λ d. d.info) ds ≡ sets.items)
+        × (length ds ≡ 256) × AreSets (S.told shelf.old).blobs 0 ds
         × (AreNoted notes.old [] → AreNoted notes.new (all_recipes ds))) }
     ensures kept { IsAsBefore (S.told shelf.old) (S.told shelf.new) }
     ensures gets { (S.told shelf.new).gets ≡ (S.told shelf.old).gets }
-    ensures causes { HasCauses (S.told shelf.old).faults (S.told shelf.new).faults (IsDamageOf (S.told shelf.old).blobs) result }
+    ensures causes { HasCauses (S.told shelf.old).faults (S.told shelf.new).faults
+        (IsDamageOf (S.told shelf.old).blobs) result }
 {
     let mut sets = Vec::new(alloc);
     for number in 0..256u32 {
@@ -98,10 +103,12 @@ fn read_set<S: Shelf>(
 ) -> Result<SetInfo, Fault>
     requires listing { IfSome (S.told shelf.old).blobs (λ m. IsListing m names.now) }
     requires floor { IsFloorIn (S.told shelf.old).blobs set floor }
-    ensures read { IfOk result (λ info. (rs : List Recipes) × IsSetRead (S.told shelf.old).blobs set info rs × (info.floor ≡ floor) × NotesMore notes.old notes.new (set * 2 ^ 32) rs) }
+    ensures read { IfOk result (λ info. (rs : List Recipes) × IsSetRead (S.told shelf.old).blobs set info rs
+        × (info.floor ≡ floor) × NotesMore notes.old notes.new (set * 2 ^ 32) rs) }
     ensures kept { IsAsBefore (S.told shelf.old) (S.told shelf.new) }
     ensures gets { (S.told shelf.new).gets ≡ (S.told shelf.old).gets }
-    ensures causes { HasCauses (S.told shelf.old).faults (S.told shelf.new).faults (IsSetDamage (S.told shelf.old).blobs set floor) result }
+    ensures causes { HasCauses (S.told shelf.old).faults (S.told shelf.new).faults
+        (IsSetDamage (S.told shelf.old).blobs set floor) result }
 {
     let latest = last_due(names, set, floor);
     let mut next = 1;
@@ -133,7 +140,8 @@ fn read_version<S: Shelf>(
     ensures found { IfOk result (λ r. ReadsRecipe (S.told shelf.old).blobs set version r × (low ≤ r.next)) }
     ensures kept { IsAsBefore (S.told shelf.old) (S.told shelf.new) }
     ensures gets { (S.told shelf.new).gets ≡ (S.told shelf.old).gets }
-    ensures causes { HasCauses (S.told shelf.old).faults (S.told shelf.new).faults (IsVersionDamage (S.told shelf.old).blobs set version low) result }
+    ensures causes { HasCauses (S.told shelf.old).faults (S.told shelf.new).faults
+        (IsVersionDamage (S.told shelf.old).blobs set version low) result }
 {
     let recipe = recipe_in(alloc, shelf, names, set, version)?;
     if recipe.next < low {
@@ -157,7 +165,8 @@ fn recipe_in<S: Shelf>(
     ensures found { IfOk result (ReadsRecipe (S.told shelf.old).blobs set version) }
     ensures kept { IsAsBefore (S.told shelf.old) (S.told shelf.new) }
     ensures gets { (S.told shelf.new).gets ≡ (S.told shelf.old).gets }
-    ensures causes { HasCauses (S.told shelf.old).faults (S.told shelf.new).faults (IsRecipeDamage (S.told shelf.old).blobs set version) result }
+    ensures causes { HasCauses (S.told shelf.old).faults (S.told shelf.new).faults
+        (IsRecipeDamage (S.told shelf.old).blobs set version) result }
 {
     let name = Name::recipe(set, version);
     if is_listed(names, name) {
@@ -193,10 +202,12 @@ pub fn read_tables<S: Shelf>(
     places: HashMap<Chunk, RowPlace>,
 ) -> Result<Found, Fault>
     requires { IsAscending ids.now }
-    ensures read { IfOk result (λ found. (ts : List Tables) × IsFound (S.told shelf.old).blobs ids.now places.entries found ts) }
+    ensures read { IfOk result (λ found. (ts : List Tables)
+        × IsFound (S.told shelf.old).blobs ids.now places.entries found ts) }
     ensures kept { IsAsBefore (S.told shelf.old) (S.told shelf.new) }
     ensures gets { (S.told shelf.new).gets ≡ (S.told shelf.old).gets }
-    ensures causes { HasCauses (S.told shelf.old).faults (S.told shelf.new).faults (IsFirstTable (S.told shelf.old).blobs ids.now) result }
+    ensures causes { HasCauses (S.told shelf.old).faults (S.told shelf.new).faults
+        (IsFirstTable (S.told shelf.old).blobs ids.now) result }
 {
     let mut tables = BTreeMap::new(alloc);
     let mut index = Index::from_tables(alloc, &[])?;

@@ -19,7 +19,8 @@ pub fn catalog_of(
 ) -> Result<Catalog, Memory>
     requires { vec_len sets ≤ 256 }
     ensures parts { IfOk result (λ c. (c.sets ≡ sets) × (c.tables ≡ tables) × (c.markers ≡ markers)) }
-    ensures strays { IfOk result (λ c. c.strays.items ≡ filter (λ n. not (needs sets.items tables.entries n)) names.now) }
+    ensures strays { IfOk result
+        (λ c. c.strays.items ≡ filter (λ n. not (needs sets.items tables.entries n)) names.now) }
     ensures room { IfOk result (λ c. HasRoom (memo_of c)) }
 {
     let mut strays = strays_of(alloc, names, sets.as_slice(), &tables)?;
@@ -65,7 +66,8 @@ fn strays_of(
     sets: &[SetInfo],
     tables: &BTreeMap<Id, Table>,
 ) -> Result<Vec<Name>, Memory>
-    ensures { IfOk result (λ strays. strays.items ≡ filter (λ n. not (needs sets.now tables.now.entries n)) names.now) }
+    ensures { IfOk result
+        (λ strays. strays.items ≡ filter (λ n. not (needs sets.now tables.now.entries n)) names.now) }
 {
     let mut strays = Vec::new(alloc);
     for name in names {

@@ -1,19 +1,18 @@
 -- Strays that are taken out.
-use Rattle.std.proofs.Common.{◌≡◌, ◌⊎◌, inl, inr, ⊎_elim, ℕ, suc, ◌<◌, ◌≤◌, ◌+◌, ◌-◌, ◌^◌, length, List, [], ◌∷◌, ◌++◌, take, drop, Option, Some, None, refl, sym, ◌∙◌, ap, subst, arith, true, false, min, take-append-drop}
-use Rattle.std.specs.Prelude.{Result, Ok, Err, OnErr, OnOk, is_ok, is_err, Contains, slice_index_or}
+use Rattle.std.proofs.Common.{◌≡◌, ◌⊎◌, inl, inr, ⊎_elim, ℕ, suc, ◌<◌, ◌≤◌, ◌+◌, ◌-◌, ◌^◌, length, List, [], ◌∷◌, ◌++◌, take, drop, Option, None, sym, ◌∙◌, ap, subst, arith, true, false, take-append-drop}
+use Rattle.std.specs.Prelude.{Result, Ok, Err, OnErr, OnOk, is_ok, Contains, slice_index_or}
 use Rattle.std.specs.List.{remove}
 use Rattle.std.proofs.lemmas.List.Elements.{Contains-append_left, Contains-append_right, Contains-append_cases, Contains-push_cases}
 use Rattle.std.proofs.Math.Seq.{drop-cons}
-use Rattle.std.specs.FinMap as fin
 use Rattle.vault_types.specs.declared.Name.{Name}
 use Rattle.vault_types.specs.Shelf.{Blobs, with_blob}
 use Rattle.vault_types.specs.Events.{Core, Held, IsNear}
-use Rattle.vault_traits.specs.Crash.{History, LeavesNowIfTold, LeavesOnlyIfTold}
-use Rattle.vault_traits.specs.Counts.{Rose, counted}
+use Rattle.vault_traits.specs.Crash.{History, LeavesOnlyIfTold}
+use Rattle.vault_traits.specs.Counts.{Rose}
 use Rattle.vault_traits.specs.Shelf.{blobs_with, IsWritten, MayBeWritten}
 use Rattle.vault_traits.proofs.Maps.{get_is}
 use Rattle.vault_traits.proofs.Moments.{then, ends}
-use Rattle.state_laws.specs.Parts.{IsNoLater, IsFree, IsIdle, IsSpare, HeldIfTold, with_strays, CanClean}
+use Rattle.state_laws.specs.Parts.{IsSpare, HeldIfTold, with_strays, CanClean}
 use Rattle.state_laws.proofs.Standing.{held_write, held_may_write, held_fewer, idle_may_write}
 use Rattle.state_laws.proofs.Changing.{told_same, told_with}
 

@@ -4,7 +4,7 @@ use Rattle.std.specs.Prelude.{◌≢◌, IsSome}
 use Rattle.vault_types.specs.declared.Name.{Name}
 use Rattle.vault_types.specs.Shelf.{Blobs, blob_at}
 use Rattle.vault_traits.specs.Crash.{History}
-use Rattle.vault_traits.specs.Shelf.{blobs_with, history_with, MayBeWritten}
+use Rattle.vault_traits.specs.Shelf.{blobs_with, MayBeWritten}
 use Rattle.vault_traits.proofs.Maps.{get_other, other_blob}
 use Rattle.vault_traits.specs.Writes.{MayBeWrittenInTurn}
 

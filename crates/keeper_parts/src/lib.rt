@@ -25,12 +25,15 @@ use vault_types::{Fault, Name, Set, Version};
 pub fn put_container<S: Shelf>(alloc: Global, shelf: &mut S, sealed: &Sealed) -> Result<(), Fault>
     ensures there { OnOk result (IfSome (S.told shelf.new).blobs (λ m. HasContainer m sealed.now)) }
     ensures tells { IsSome (S.told shelf.old).blobs → IsSome (S.told shelf.new).blobs }
-    ensures others { (q : Named) → q ≢ payload_name sealed.now.table.id → q ≢ table_name sealed.now.table.id → blob_at (S.told shelf.new).blobs q ≡ blob_at (S.told shelf.old).blobs q }
-    ensures held { (K : Core) → IsSpare K (payload_name sealed.now.table.id) sealed.now.payload → IsSpare K (table_name sealed.now.table.id) (Some (table_bytes sealed.now.table))
+    ensures others { (q : Named) → q ≢ payload_name sealed.now.table.id → q ≢ table_name sealed.now.table.id
+        → blob_at (S.told shelf.new).blobs q ≡ blob_at (S.told shelf.old).blobs q }
+    ensures held { (K : Core) → IsSpare K (payload_name sealed.now.table.id) sealed.now.payload
+        → IsSpare K (table_name sealed.now.table.id) (Some (table_bytes sealed.now.table))
         → HeldIfTold (S.told shelf.old).blobs K → HeldIfTold (S.told shelf.new).blobs K }
 
     // A crash at any moment leaves what it could leave before.
-    ensures any_moment { (K : Core) → IsSpare K (payload_name sealed.now.table.id) sealed.now.payload → IsSpare K (table_name sealed.now.table.id) (Some (table_bytes sealed.now.table))
+    ensures any_moment { (K : Core) → IsSpare K (payload_name sealed.now.table.id) sealed.now.payload
+        → IsSpare K (table_name sealed.now.table.id) (Some (table_bytes sealed.now.table))
         → LeavesNowIfTold (S.told shelf.old).history (IsNear K.state K.other)
         → LeavesOnlyIfTold (S.told shelf.old).history (S.told shelf.new).history (IsNear K.state K.other) }
     ensures gets { (S.told shelf.new).gets ≡ (S.told shelf.old).gets }
@@ -49,15 +52,20 @@ pub fn mend<S: Shelf>(
     floor: Version,
 ) -> Result<(), Fault>
     requires { IsVersion floor }
-    ensures held { (K : Core) → Mends K set version floor → HeldIfTold (S.told shelf.old).blobs K → HeldIfTold (S.told shelf.new).blobs K }
+    ensures held { (K : Core) → Mends K set version floor → HeldIfTold (S.told shelf.old).blobs K
+        → HeldIfTold (S.told shelf.new).blobs K }
     ensures tells { IsSome (S.told shelf.old).blobs → IsSome (S.told shelf.new).blobs }
-    ensures mended { OnOk result ((K : Core) → Mends K set version floor → HeldIfTold (S.told shelf.old).blobs K → HeldIfTold (S.told shelf.new).blobs (without_other K)) }
-    ensures others { (q : Named) → q ≢ recipe_name set version → q ≢ floor_name set → blob_at (S.told shelf.new).blobs q ≡ blob_at (S.told shelf.old).blobs q }
+    ensures mended { OnOk result ((K : Core) → Mends K set version floor
+        → HeldIfTold (S.told shelf.old).blobs K → HeldIfTold (S.told shelf.new).blobs (without_other K)) }
+    ensures others { (q : Named) → q ≢ recipe_name set version → q ≢ floor_name set
+        → blob_at (S.told shelf.new).blobs q ≡ blob_at (S.told shelf.old).blobs q }
 
     // A crash at any moment leaves one of the two states; behind an `Ok` only the one, whatever could be left before.
-    ensures any_moment { (K : Core) → Mends K set version floor → LeavesNowIfTold (S.told shelf.old).history (IsNear K.state K.other)
+    ensures any_moment { (K : Core) → Mends K set version floor
+        → LeavesNowIfTold (S.told shelf.old).history (IsNear K.state K.other)
         → LeavesOnlyIfTold (S.told shelf.old).history (S.told shelf.new).history (IsNear K.state K.other) }
-    ensures acknowledged { OnOk result ((K : Core) → Mends K set version floor → HeldIfTold (S.told shelf.old).blobs K
+    ensures acknowledged { OnOk result ((K : Core) → Mends K set version floor
+        → HeldIfTold (S.told shelf.old).blobs K
         → LeavesNowIfTold (S.told shelf.new).history (IsNear K.state None)) }
     ensures gets { (S.told shelf.new).gets ≡ (S.told shelf.old).gets }
     ensures causes { HasStoreFault (S.told shelf.old).faults (S.told shelf.new).faults result }
@@ -87,24 +95,33 @@ pub fn commit<S: Shelf>(
     version: Version,
     recipe: &[u8],
 ) -> Result<(), Halt>
-    ensures ok { OnOk result ((S.told shelf.new).blobs ≡ blobs_with (S.told shelf.old).blobs (recipe_name set version) (Some recipe.now)) }
+    ensures ok { OnOk result
+        ((S.told shelf.new).blobs
+        ≡ blobs_with (S.told shelf.old).blobs (recipe_name set version) (Some recipe.now)) }
     ensures half { result ≡ Err Halt.Half → ((S.told shelf.new).blobs ≡ (S.told shelf.old).blobs)
-        ⊎ ((S.told shelf.new).blobs ≡ blobs_with (S.told shelf.old).blobs (recipe_name set version) (Some recipe.now)) }
-    ensures before { (r : Refused) → result ≡ Err (Halt.Before r) → (S.told shelf.new).blobs ≡ (S.told shelf.old).blobs }
+        ⊎ ((S.told shelf.new).blobs
+        ≡ blobs_with (S.told shelf.old).blobs (recipe_name set version) (Some recipe.now)) }
+    ensures before { (r : Refused) → result ≡ Err (Halt.Before r)
+        → (S.told shelf.new).blobs ≡ (S.told shelf.old).blobs }
 
     // A crash at any moment leaves the state from before or the one after; at `Ok` only the one after, and where nothing
     // was written the one from before.
-    ensures any_moment { (A B : State) → CanChange (S.told shelf.old).blobs A (change (recipe_name set version) recipe.now B)
+    ensures any_moment { (A B : State)
+        → CanChange (S.told shelf.old).blobs A (change (recipe_name set version) recipe.now B)
         → LeavesNowIfTold (S.told shelf.old).history (IsNear A None)
-        → LeavesOnlyIfTold (S.told shelf.old).history (S.told shelf.new).history (IsNear A (Some (change (recipe_name set version) recipe.now B))) }
-    ensures acknowledged { OnOk result ((A B : State) → CanChange (S.told shelf.old).blobs A (change (recipe_name set version) recipe.now B)
+        → LeavesOnlyIfTold (S.told shelf.old).history (S.told shelf.new).history
+        (IsNear A (Some (change (recipe_name set version) recipe.now B))) }
+    ensures acknowledged { OnOk result ((A B : State)
+        → CanChange (S.told shelf.old).blobs A (change (recipe_name set version) recipe.now B)
         → LeavesNowIfTold (S.told shelf.new).history (IsNear B None)) }
-    ensures still { (r : Refused) → result ≡ Err (Halt.Before r) → (A : State) → LeavesNowIfTold (S.told shelf.old).history (IsNear A None)
+    ensures still { (r : Refused) → result ≡ Err (Halt.Before r) → (A : State)
+        → LeavesNowIfTold (S.told shelf.old).history (IsNear A None)
         → LeavesOnlyIfTold (S.told shelf.old).history (S.told shelf.new).history (IsNear A None) }
     ensures gets { (S.told shelf.new).gets ≡ (S.told shelf.old).gets }
     ensures later { (S.told shelf.old).faults ≤ (S.told shelf.new).faults }
     ensures failed_half { result ≡ Err Halt.Half → Rose (S.told shelf.old).faults (S.told shelf.new).faults }
-    ensures failed_before { result ≡ Err (Halt.Before Refused.Failed) → Rose (S.told shelf.old).faults (S.told shelf.new).faults }
+    ensures failed_before { result ≡ Err (Halt.Before Refused.Failed)
+        → Rose (S.told shelf.old).faults (S.told shelf.new).faults }
 {
     if shelf.settle().is_err() {
         return Err(Halt::Before(Refused::Failed));
@@ -123,16 +140,22 @@ pub fn commit<S: Shelf>(
 /// Writes the floor of a set and settles. `StoreFault`. Takes no memory.
 pub fn raise_floor<S: Shelf>(shelf: &mut S, set: Set, floor: Version) -> Result<(), Fault>
     requires { IsVersion floor }
-    ensures ok { OnOk result ((S.told shelf.new).blobs ≡ blobs_with (S.told shelf.old).blobs (floor_name set) (Some (floor_bytes set floor))) }
+    ensures ok { OnOk result
+        ((S.told shelf.new).blobs
+        ≡ blobs_with (S.told shelf.old).blobs (floor_name set) (Some (floor_bytes set floor))) }
     ensures at_most { ((S.told shelf.new).blobs ≡ (S.told shelf.old).blobs)
-        ⊎ ((S.told shelf.new).blobs ≡ blobs_with (S.told shelf.old).blobs (floor_name set) (Some (floor_bytes set floor))) }
+        ⊎ ((S.told shelf.new).blobs
+        ≡ blobs_with (S.told shelf.old).blobs (floor_name set) (Some (floor_bytes set floor))) }
 
     // A crash at any moment leaves the state from before or the one after; at `Ok` only the one after.
     ensures any_moment { (A B : State) → Changes A (change (floor_name set) (floor_bytes set floor) B)
         → LeavesNowIfTold (S.told shelf.old).history (IsNear A None)
-        → LeavesOnlyIfTold (S.told shelf.old).history (S.told shelf.new).history (IsNear A (Some (change (floor_name set) (floor_bytes set floor) B))) }
-    ensures acknowledged { OnOk result ((A B : State) → Changes A (change (floor_name set) (floor_bytes set floor) B)
-        → IfSome (S.told shelf.old).blobs (λ m. Stands m A) → LeavesNowIfTold (S.told shelf.new).history (IsNear B None)) }
+        → LeavesOnlyIfTold (S.told shelf.old).history (S.told shelf.new).history
+        (IsNear A (Some (change (floor_name set) (floor_bytes set floor) B))) }
+    ensures acknowledged { OnOk result ((A B : State)
+        → Changes A (change (floor_name set) (floor_bytes set floor) B)
+        → IfSome (S.told shelf.old).blobs (λ m. Stands m A)
+        → LeavesNowIfTold (S.told shelf.new).history (IsNear B None)) }
     ensures gets { (S.told shelf.new).gets ≡ (S.told shelf.old).gets }
     ensures causes { HasStoreFault (S.told shelf.old).faults (S.told shelf.new).faults result }
 {
@@ -145,13 +168,17 @@ pub fn raise_floor<S: Shelf>(shelf: &mut S, set: Set, floor: Version) -> Result<
 
 /// Takes out the strays; those whose removal failed stay strays. Takes no memory.
 pub fn clean<S: Shelf>(shelf: &mut S, strays: &mut Vec<Name>)
-    ensures held { (K : Core) → K.strays ≡ strays.old.items → CanClean K → HeldIfTold (S.told shelf.old).blobs K → HeldIfTold (S.told shelf.new).blobs (with_strays strays.new.items K) }
-    ensures any_moment { (K : Core) → K.strays ≡ strays.old.items → CanClean K → LeavesNowIfTold (S.told shelf.old).history (IsNear K.state K.other)
+    ensures held { (K : Core) → K.strays ≡ strays.old.items → CanClean K
+        → HeldIfTold (S.told shelf.old).blobs K
+        → HeldIfTold (S.told shelf.new).blobs (with_strays strays.new.items K) }
+    ensures any_moment { (K : Core) → K.strays ≡ strays.old.items → CanClean K
+        → LeavesNowIfTold (S.told shelf.old).history (IsNear K.state K.other)
         → LeavesOnlyIfTold (S.told shelf.old).history (S.told shelf.new).history (IsNear K.state K.other) }
     ensures within { (n : Named) → Contains strays.new.items n → Contains strays.old.items n }
 
     // At most one name is left for each failure.
-    ensures few { (S.told shelf.new).faults < 2 ^ 64 - 1 → length strays.new.items + (S.told shelf.old).faults ≤ (S.told shelf.new).faults }
+    ensures few { (S.told shelf.new).faults < 2 ^ 64 - 1
+        → length strays.new.items + (S.told shelf.old).faults ≤ (S.told shelf.new).faults }
     ensures room { vec_capacity strays.new ≡ vec_capacity strays.old }
     ensures gets { (S.told shelf.new).gets ≡ (S.told shelf.old).gets }
     ensures later { (S.told shelf.old).faults ≤ (S.told shelf.new).faults }

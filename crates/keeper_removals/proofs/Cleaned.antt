@@ -1,6 +1,6 @@
 -- What the shelf holds, and what a crash leaves, behind a deletion and the removal of what goes with it.
 use Rattle.std.proofs.Common.{◌≡◌, ◌⊎◌, inl, inr, ℕ, ◌<◌, ◌≤◌, ◌+◌, map, length, Bool, false, cond, not, List, [], ◌∷◌, drop, Option, Some, None, max, refl, sym, ◌∙◌, ap, subst, arith}
-use Rattle.std.specs.Prelude.{Contains, IsSome, OnErr, Result, Ok, Err, slice_index_or, filter}
+use Rattle.std.specs.Prelude.{Contains, IsSome, IsErrAnd, Result, Ok, Err, slice_index_or, filter}
 use Rattle.vault_types.specs.declared.Fp.{Fp}
 use Rattle.vault_types.specs.declared.Name.{Name}
 use Rattle.vault_types.specs.declared.Pending.TheVariants.{Not}
@@ -30,9 +30,10 @@ use Rattle.deletion_laws.proofs.Going.{told_deleted, told_cleans, told_deleted_s
 use Rattle.keeper_removals.specs.Removals.{Removing, Rises}
 use Rattle.keeper_removals.proofs.Deleted.{some_info}
 
-pub always : {T E : Type 0} (r : Result T E) (P : Type 0) → P → OnErr r P
-always (Ok x) P p = tt
-always (Err e) P p = p
+-- what holds of a refusal holds of it as it is handed on
+pub again : {T E : Type 0} (P : Result T E → Type 0) (f : E) → P (Err f) → (r : Result T E) → IsErrAnd r (λ e. e ≡ f) → P r
+again P f h (Ok x) is = absurd is
+again {E = E} P f h (Err e) is = subst (λ (d : E). P (Err d)) (sym is) h
 
 none_pass : (p : ℕ → Bool) (xs : List ℕ) → ((x : ℕ) → Contains xs x → p x ≡ false) → filter p xs ≡ []
 none_pass p [] none = refl
@@ -107,3 +108,7 @@ module _ (before after : Option Blobs) (s floor : ℕ) where
 
   pub floor_tells : after ≡ blobs_with before (floor_name s) (Some (floor_bytes s floor)) → IsSome before → IsSome after
   floor_tells is tells = subst (λ (o : Option Blobs). IsSome o) (sym is) (tells_with before (floor_name s) (Some (floor_bytes s floor)) tells)
+
+  pub floor_goes_on : (after ≡ before) ⊎ (after ≡ blobs_with before (floor_name s) (Some (floor_bytes s floor))) → IsSome before → IsSome after
+  floor_goes_on (inl same) tells = subst (λ (o : Option Blobs). IsSome o) (sym same) tells
+  floor_goes_on (inr is) tells = floor_tells is tells

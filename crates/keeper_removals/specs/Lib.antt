@@ -1,1 +1,3 @@
 pub mod Removals
+pub mod Deletes
+pub mod Releases

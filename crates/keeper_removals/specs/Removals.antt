@@ -12,7 +12,8 @@ use Rattle.keeper_catalog.specs.Catalog.{Memo, table_at, IsMemoOf}
 use Rattle.keeper_catalog.specs.View.{AreAlike}
 
 -- a deletion of the set through n may be made, and this is in memory then
-pub record Removing (m : Memo) (index : List (Fp × List ℕ)) (pins : List Listed) (K : Core) (s n : ℕ) : Type 0 where
+pub record Removing (m : Memo) (index : List (Fp × List ℕ)) (pins : List Listed) (K : Core)
+    (s n : ℕ) : Type 0 where
   pub core : IsCore K
   pub memo : IsMemoOf m K
   pub index_is : IsIndexOf index (map (λ c. c.table) K.state.containers)
@@ -44,14 +45,15 @@ pub record IsNameAmong (test : ℕ → Bool) (q : Name) : Type 0 where
   pub passes : test id ≡ true
   pub is : IsNameOf id q
 
--- the tables of the ids that pass the test are gone from memory, and the names of those that were there are added
--- behind the strays
+-- the tables of the ids that pass the test are gone from memory, and the names of those that were
+-- there are added behind the strays
 pub record Leaves (test : ℕ → Bool) (was now : List (ℕ × Table)) (strays after : List Name) : Type 0 where
   pub tables : (id : ℕ) → table_at now id ≡ (if test id then None else table_at was id)
   pub added : List Name
   pub strays_are : after ≡ strays ++ added
   pub only : (q : Name) → Contains added q → IsNameAmong test q
-  pub gone : (id : ℕ) (q : Name) → test id ≡ true → IsSome (table_at was id) → IsNameOf id q → Contains added q
+  pub gone : (id : ℕ) (q : Name) → test id ≡ true → IsSome (table_at was id) → IsNameOf id q
+      → Contains added q
 
 -- the table in memory at the id is the one with this id among the known ones, or none of them has it
 pub record IsTableIn (tables : List (ℕ × Table)) (id : ℕ) (known : List Table) : Type 0 where

@@ -18,6 +18,7 @@ ghost use Rattle.state_laws.specs.Parts.{HeldIfTold};
 ghost use Rattle.vault_types.specs.RecipeForms.{KeepsRecipes};
 ghost use Rattle.keeper_catalog.specs.Catalog.{memo_of, set_info, IsMemoOf, HasRoom};
 ghost use Rattle.deletion_laws.specs.Deleting.{IsDeleting, IsGone, AreStraysAfter, without_ids};
+ghost use Rattle.keeper_removals.specs.Deletes.{DeletesVersions};
 ghost use Rattle.keeper_removals.specs.Removals.{Removing, Rises, Leaves, LeavesRecipes, IsTableIn, IsKnown};
 
 use crate::leaving::let_go;
@@ -35,8 +36,10 @@ use vault_types::{Fault, Id, Name, Set, Table, Version};
 // that is kept for them.
 fn take_freed(markers: &mut SetMarkers, freed: &mut Vec<Id>, set: Set, floor: Version)
     requires { length markers.old.ids ≤ vec_capacity freed.old }
-    ensures freed { (marks : List Mark) → AreMarkersOfSets markers.old marks → freed.new.items ≡ freed_ids set floor marks }
-    ensures markers { (marks : List Mark) → AreMarkersOfSets markers.old marks → AreMarkersOfSets markers.new (marks_above set floor marks) }
+    ensures freed { (marks : List Mark) → AreMarkersOfSets markers.old marks
+        → freed.new.items ≡ freed_ids set floor marks }
+    ensures markers { (marks : List Mark) → AreMarkersOfSets markers.old marks
+        → AreMarkersOfSets markers.new (marks_above set floor marks) }
     ensures room { vec_capacity freed.old ≤ vec_capacity freed.new }
 {
     freed.clear();
@@ -52,9 +55,12 @@ fn forget_container(
     id: Id,
 )
     requires { length strays.old.items + 2 * length tables.old.entries ≤ vec_capacity strays.old }
-    ensures left { Leaves (λ k. nat_eq k id && not (has k (listed_ids pins.now))) tables.old.entries tables.new.entries strays.old.items strays.new.items }
-    ensures index { (known : List TableOf) → IsTableIn tables.old.entries id known → IsIndexOf index.old known → IsIndexOf index.new (without_id id known) }
-    ensures room { length strays.new.items + 2 * length tables.new.entries ≤ length strays.old.items + 2 * length tables.old.entries }
+    ensures left { Leaves (λ k. nat_eq k id && not (has k (listed_ids pins.now))) tables.old.entries
+        tables.new.entries strays.old.items strays.new.items }
+    ensures index { (known : List TableOf) → IsTableIn tables.old.entries id known → IsIndexOf index.old known
+        → IsIndexOf index.new (without_id id known) }
+    ensures room { length strays.new.items + 2 * length tables.new.entries
+        ≤ length strays.old.items + 2 * length tables.old.entries }
     ensures capacity { vec_capacity strays.old ≤ vec_capacity strays.new }
 {
     let Some(table) = tables.get(&id) else {
@@ -76,9 +82,13 @@ fn forget_containers(
     ids: &[Id],
 )
     requires { length strays.old.items + 2 * length tables.old.entries ≤ vec_capacity strays.old }
-    ensures left { Leaves (λ k. has k ids.now && not (has k (listed_ids pins.now))) tables.old.entries tables.new.entries strays.old.items strays.new.items }
-    ensures index { (known : List TableOf) → ((id : ℕ) → has id ids.now ≡ true → IsKnown tables.old.entries known id) → IsIndexOf index.old known → IsIndexOf index.new (without_ids ids.now known) }
-    ensures room { length strays.new.items + 2 * length tables.new.entries ≤ length strays.old.items + 2 * length tables.old.entries }
+    ensures left { Leaves (λ k. has k ids.now && not (has k (listed_ids pins.now))) tables.old.entries
+        tables.new.entries strays.old.items strays.new.items }
+    ensures index { (known : List TableOf)
+        → ((id : ℕ) → has id ids.now ≡ true → IsKnown tables.old.entries known id) → IsIndexOf index.old known
+        → IsIndexOf index.new (without_ids ids.now known) }
+    ensures room { length strays.new.items + 2 * length tables.new.entries
+        ≤ length strays.old.items + 2 * length tables.old.entries }
     ensures capacity { vec_capacity strays.old ≤ vec_capacity strays.new }
 {
     let mut left = ids.len();
@@ -107,7 +117,9 @@ fn leave_recipes(strays: &mut Vec<Name>, set: Set, old: Version, floor: Version)
 fn note_floor(sets: &mut [SetInfo], set: Set, floor: Version) -> Version
     requires { set < length sets.old }
     ensures was { result ≡ (slice_index_or sets.old set (set_info empty_dataset)).floor }
-    ensures sets { sets.new ≡ slice_set sets.old set (record (slice_index_or sets.old set (set_info empty_dataset)) { floor = floor }) }
+    ensures sets { sets.new
+        ≡ slice_set sets.old set
+        (record (slice_index_or sets.old set (set_info empty_dataset)) { floor = floor }) }
 {
     let info = &mut sets[set as usize];
     let old = info.floor;
@@ -124,12 +136,18 @@ fn forget_versions(
     set: Set,
     floor: Version,
 ) -> u64
-    requires can { (K : Core) × (n : ℕ) × Removing (memo_of catalog.old) index.old pins.now K set n × Rises K set n floor }
+    requires can { (K : Core) × (n : ℕ) × Removing (memo_of catalog.old) index.old pins.now K set n
+        × Rises K set n floor }
     requires room { HasRoom (memo_of catalog.old) }
-    ensures removed { (K : Core) (n : ℕ) → Removing (memo_of catalog.old) index.old pins.now K set n → Rises K set n floor → result ≡ length (reclaimed_ids K.state (delete K.state set n)) }
-    ensures memo { (K : Core) (n : ℕ) → Removing (memo_of catalog.old) index.old pins.now K set n → Rises K set n floor → IsMemoOf (memo_of catalog.new) (after_delete set n catalog.new.strays.items K) }
-    ensures index { (K : Core) (n : ℕ) → Removing (memo_of catalog.old) index.old pins.now K set n → Rises K set n floor → IsIndexOf index.new (map (λ c. c.table) (delete K.state set n).containers) }
-    ensures strays { (K : Core) (n : ℕ) → Removing (memo_of catalog.old) index.old pins.now K set n → Rises K set n floor → AreStraysAfter K set n catalog.new.strays.items }
+    ensures removed { (K : Core) (n : ℕ) → Removing (memo_of catalog.old) index.old pins.now K set n
+        → Rises K set n floor → result ≡ length (reclaimed_ids K.state (delete K.state set n)) }
+    ensures memo { (K : Core) (n : ℕ) → Removing (memo_of catalog.old) index.old pins.now K set n
+        → Rises K set n floor
+        → IsMemoOf (memo_of catalog.new) (after_delete set n catalog.new.strays.items K) }
+    ensures index { (K : Core) (n : ℕ) → Removing (memo_of catalog.old) index.old pins.now K set n
+        → Rises K set n floor → IsIndexOf index.new (map (λ c. c.table) (delete K.state set n).containers) }
+    ensures strays { (K : Core) (n : ℕ) → Removing (memo_of catalog.old) index.old pins.now K set n
+        → Rises K set n floor → AreStraysAfter K set n catalog.new.strays.items }
     ensures room { HasRoom (memo_of catalog.new) }
 {
     take_freed(&mut catalog.markers, &mut catalog.freed, set, floor);
@@ -161,38 +179,9 @@ pub fn delete_versions<S: Shelf>(
 ) -> Result<u64, Fault>
     requires can { (K : Core) × Removing (memo_of catalog.old) index.old pins.now K set through }
     requires room { HasRoom (memo_of catalog.old) }
-    ensures removed { IfOk result (λ n. (K : Core) → Removing (memo_of catalog.old) index.old pins.now K set through → n ≡ length (reclaimed_ids K.state (delete K.state set through))) }
-    ensures memo { OnOk result ((K : Core) → Removing (memo_of catalog.old) index.old pins.now K set through → IsMemoOf (memo_of catalog.new) (after_delete set through catalog.new.strays.items K)) }
-    ensures index { OnOk result ((K : Core) → Removing (memo_of catalog.old) index.old pins.now K set through → IsIndexOf index.new (map (λ c. c.table) (delete K.state set through).containers)) }
-    ensures held { OnOk result ((K : Core) → Removing (memo_of catalog.old) index.old pins.now K set through → HeldIfTold (S.told shelf.old).blobs K
-        → HeldIfTold (S.told shelf.new).blobs (after_delete set through catalog.new.strays.items K)) }
-
-    // A refusal leaves the memory, and the floor may be written.
-    ensures as_before { OnErr result ((memo_of catalog.new ≡ memo_of catalog.old) × (index.new ≡ index.old)) }
-    ensures half { OnErr result ((K : Core) → Removing (memo_of catalog.old) index.old pins.now K set through → HeldIfTold (S.told shelf.old).blobs K
-        → HeldIfTold (S.told shelf.new).blobs (after_refused (Some (delete_change set through K.state)) None K.strays (pending.FailedFor set) K)) }
-
-    // Each recipe that is kept behind it is as it was; a refusal leaves all.
-    ensures recipes { OnOk result (IsSome (S.told shelf.old).blobs → (K : Core) → Removing (memo_of catalog.old) index.old pins.now K set through → HeldIfTold (S.told shelf.old).blobs K
-        → KeepsRecipes (delete K.state set through) (S.told shelf.old).blobs (S.told shelf.new).blobs) }
-    ensures all_recipes { OnErr result ((s v : ℕ) → blob_at (S.told shelf.new).blobs (recipe_name s v) ≡ blob_at (S.told shelf.old).blobs (recipe_name s v)) }
-
-    // A crash at any moment leaves the state from before or the one after: at `Ok` only the one after, and in a refused
-    // deletion only the one from before or the floor that was tried.
-    ensures refused_moment { OnErr result ((K : Core) → Removing (memo_of catalog.old) index.old pins.now K set through → LeavesNowIfTold (S.told shelf.old).history (IsNear K.state None)
-        → LeavesOnlyIfTold (S.told shelf.old).history (S.told shelf.new).history (IsNear K.state (Some (delete_change set through K.state)))) }
-    ensures any_moment { (K : Core) → Removing (memo_of catalog.old) index.old pins.now K set through → HeldIfTold (S.told shelf.old).blobs K → LeavesNowIfTold (S.told shelf.old).history (IsNear K.state None)
-        → LeavesOnlyIfTold (S.told shelf.old).history (S.told shelf.new).history (IsDeleting K.state set through) }
-    ensures acknowledged { OnOk result ((K : Core) → Removing (memo_of catalog.old) index.old pins.now K set through → HeldIfTold (S.told shelf.old).blobs K → LeavesNowIfTold (S.told shelf.old).history (IsNear K.state None)
-        → LeavesNowIfTold (S.told shelf.new).history (IsNear (delete K.state set through) None)) }
-
-    // Each stray was one before or is a name that goes, and at most one is left for each failure.
-    ensures within { OnOk result ((K : Core) → Removing (memo_of catalog.old) index.old pins.now K set through → (n : Named) → Contains catalog.new.strays.items n → Contains catalog.old.strays.items n ⊎ IsGone K set through n) }
-    ensures few { OnOk result ((S.told shelf.new).faults < 2 ^ 64 - 1 → length catalog.new.strays.items + (S.told shelf.old).faults ≤ (S.told shelf.new).faults) }
-    ensures room { HasRoom (memo_of catalog.new) }
-    ensures tells { IsSome (S.told shelf.old).blobs → IsSome (S.told shelf.new).blobs }
-    ensures gets { (S.told shelf.new).gets ≡ (S.told shelf.old).gets }
-    ensures causes { HasStoreFault (S.told shelf.old).faults (S.told shelf.new).faults result }
+    ensures { DeletesVersions set through pins.now (memo_of catalog.old) (memo_of catalog.new) index.old
+        index.new
+        (S.told shelf.old) (S.told shelf.new) result }
 {
     let floor = through + 1;
     if floor <= catalog.sets[set as usize].floor {

@@ -7,10 +7,11 @@ ghost use Rattle.vault_types.specs.Shelf.{blob_at};
 ghost use Rattle.vault_types.specs.Events.{Core, IsNear, after_release, pins_without};
 ghost use Rattle.vault_traits.specs.Crash.{LeavesNowIfTold, LeavesOnlyIfTold};
 ghost use Rattle.set_markers.specs.SetMarkers.{AreMarkersOfSets};
-ghost use Rattle.restore_pins.specs.Pins.{numbers, listed_ids, without, AreListsOf};
+ghost use Rattle.restore_pins.specs.Pins.{numbers, listed_ids, without_pin, AreListsOf};
 ghost use Rattle.state_laws.specs.Parts.{HeldIfTold};
 ghost use Rattle.keeper_catalog.specs.Catalog.{memo_of, IsMemoOf, HasRoom};
 ghost use Rattle.deletion_laws.specs.Releasing.{IsReleased};
+ghost use Rattle.keeper_removals.specs.Releases.{ReleasesPin};
 ghost use Rattle.keeper_removals.specs.Removals.{Leaves, Releasing};
 
 use crate::leaving::let_go;
@@ -32,8 +33,10 @@ fn let_one_go(
 )
     requires { length strays.old.items + 2 * length tables.old.entries ≤ vec_capacity strays.old }
     ensures left { (marks : List Mark) → AreMarkersOfSets markers.now marks
-        → Leaves (λ k. nat_eq k id && (not (has k (marked_ids marks)) && not (has k (listed_ids pins.now)))) tables.old.entries tables.new.entries strays.old.items strays.new.items }
-    ensures room { length strays.new.items + 2 * length tables.new.entries ≤ length strays.old.items + 2 * length tables.old.entries }
+        → Leaves (λ k. nat_eq k id && (not (has k (marked_ids marks)) && not (has k (listed_ids pins.now))))
+        tables.old.entries tables.new.entries strays.old.items strays.new.items }
+    ensures room { length strays.new.items + 2 * length tables.new.entries
+        ≤ length strays.old.items + 2 * length tables.old.entries }
     ensures capacity { vec_capacity strays.old ≤ vec_capacity strays.new }
 {
     if markers.named(id) || pins.holds(id) {
@@ -52,8 +55,10 @@ fn let_unneeded_go(
 )
     requires { length strays.old.items + 2 * length tables.old.entries ≤ vec_capacity strays.old }
     ensures left { (marks : List Mark) → AreMarkersOfSets markers.now marks
-        → Leaves (λ k. has k ids.now && (not (has k (marked_ids marks)) && not (has k (listed_ids pins.now)))) tables.old.entries tables.new.entries strays.old.items strays.new.items }
-    ensures room { length strays.new.items + 2 * length tables.new.entries ≤ length strays.old.items + 2 * length tables.old.entries }
+        → Leaves (λ k. has k ids.now && (not (has k (marked_ids marks)) && not (has k (listed_ids pins.now))))
+        tables.old.entries tables.new.entries strays.old.items strays.new.items }
+    ensures room { length strays.new.items + 2 * length tables.new.entries
+        ≤ length strays.old.items + 2 * length tables.old.entries }
     ensures capacity { vec_capacity strays.old ≤ vec_capacity strays.new }
 {
     let mut left = ids.len();
@@ -70,24 +75,8 @@ pub fn release_pin<S: Shelf>(shelf: &mut S, catalog: &mut Catalog, pins: &mut Pi
     requires given { IsTrue (has no (numbers pins.old)) }
     requires can { (K : Core) × Releasing (memo_of catalog.old) pins.old K }
     requires room { HasRoom (memo_of catalog.old) }
-    ensures memo { (K : Core) → Releasing (memo_of catalog.old) pins.old K → IsMemoOf (memo_of catalog.new) (after_release no catalog.new.strays.items K) }
-    ensures pins { (K : Core) → Releasing (memo_of catalog.old) pins.old K → AreListsOf pins.new (pins_without no K.pins) }
-    ensures left { pins.new ≡ without no pins.old }
-    ensures held { (K : Core) → Releasing (memo_of catalog.old) pins.old K → HeldIfTold (S.told shelf.old).blobs K → HeldIfTold (S.told shelf.new).blobs (after_release no catalog.new.strays.items K) }
-    ensures others { (K : Core) → Releasing (memo_of catalog.old) pins.old K → (n : Named) → (IsReleased K no n → ⊥) → blob_at (S.told shelf.new).blobs n ≡ blob_at (S.told shelf.old).blobs n }
-
-    // A crash at any moment leaves what it could leave before.
-    ensures any_moment { (K : Core) → Releasing (memo_of catalog.old) pins.old K → LeavesNowIfTold (S.told shelf.old).history (IsNear K.state K.other)
-        → LeavesOnlyIfTold (S.told shelf.old).history (S.told shelf.new).history (IsNear K.state K.other) }
-
-    // Each stray was one before or is a name that the release leaves, and at most one is left for each failure.
-    ensures within { (K : Core) → Releasing (memo_of catalog.old) pins.old K → (n : Named) → Contains catalog.new.strays.items n → Contains catalog.old.strays.items n ⊎ IsReleased K no n }
-    ensures few { (S.told shelf.new).faults < 2 ^ 64 - 1 → length catalog.new.strays.items + (S.told shelf.old).faults ≤ length catalog.old.strays.items + (S.told shelf.new).faults }
-    ensures added { (added : List Named) × (catalog.new.strays.items ≡ catalog.old.strays.items ++ added) }
-    ensures room { HasRoom (memo_of catalog.new) }
-    ensures tells { IsSome (S.told shelf.old).blobs → IsSome (S.told shelf.new).blobs }
-    ensures gets { (S.told shelf.new).gets ≡ (S.told shelf.old).gets }
-    ensures later { (S.told shelf.old).faults ≤ (S.told shelf.new).faults }
+    ensures { ReleasesPin no (memo_of catalog.old) (memo_of catalog.new) pins.old pins.new
+        (S.told shelf.old) (S.told shelf.new) }
 {
     let start = catalog.strays.len();
     let ids = pins.release(no);

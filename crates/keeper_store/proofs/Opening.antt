@@ -1,8 +1,9 @@
 -- What a keeper that was opened keeps.
-use Rattle.std.proofs.Common.{◌≡◌, ◌≤◌, ℕ, List, [], Option, Some, None, refl, sym, ap, subst}
+use Rattle.std.proofs.Common.{◌≡◌, ◌≤◌, ℕ, List, [], Option, Some, None, refl, sym, ap, subst, ◌∙◌}
 use Rattle.std.specs.FinMap as fin
 use Rattle.std.specs.Prelude.{IsSome, IsSomeAnd, IfSome, Contains}
 use Rattle.vault_types.specs.declared.Name.{Name}
+use Rattle.vault_types.specs.declared.Pending.TheVariants as pending
 use Rattle.vault_types.specs.State.{State, IsValid}
 use Rattle.vault_types.specs.Shelf.{Blobs, Stands}
 use Rattle.vault_traits.specs.Crash.{History}
@@ -12,8 +13,19 @@ use Rattle.keeper_catalog.specs.View.{View, Keeps, opened_core}
 use Rattle.store_model.specs.Leaves.{Begins}
 use Rattle.store_model.specs.Strays.{IsStray, StraysOf}
 use Rattle.store_model.specs.Early.{IsSameBut}
-use Rattle.serial_delete.specs.Keeping.{IsStateOf, IsKnownStray}
-use Rattle.serial_delete.proofs.Keeping.{opened_state, opened_known}
+use Rattle.keeper_core.specs.Keeping.{IsStateOf, IsKnownStray}
+use Rattle.state_laws.specs.Parts.{HeldIfTold}
+
+-- a keeper that was opened over told blobs keeps their state, and what it knows as strays are strays of them
+pub opened_state : (v : View) (T : State) → Keeps v (opened_core T v.memo.strays) → IsSome v.told.blobs → IsStateOf v T None
+opened_state v T keeps told = record { changed = tt; images = λ e. absurd (let clash : pending.Opened ≡ pending.Not = sym keeps.pending ∙ e in cc); core = opened_core T v.memo.strays; keeps = keeps; state = refl; change = refl; job = refl; pins = refl; told = told }
+
+pub opened_known : (v : View) (T : State) → Keeps v (opened_core T v.memo.strays) → IfSome v.told.blobs (λ m. (n : Name) → Contains v.memo.strays n → IsSome (fin.get m n)) → (n : Name) → IsKnownStray v n → StraysOf v.told T n
+opened_known v T keeps found n known = at v.told.blobs keeps.held found
+  where
+    at : (b : Option Blobs) → HeldIfTold b (opened_core T v.memo.strays) → IfSome b (λ m. (q : Name) → Contains v.memo.strays q → IsSome (fin.get m q)) → IfSome b (λ m. IsStray T m n)
+    at None held all = tt
+    at (Some m) held all = record { there = all n known; unneeded = held.apart n known }
 
 some_told : (b : Option Blobs) (P : Blobs → Type 0) → IsSomeAnd b P → IsSome b
 some_told None P h = absurd h

@@ -1,5 +1,5 @@
 -- The recipe of a version, as a keeper reads it.
-use Rattle.std.proofs.Common.{◌≡◌, ◌⊎◌, inl, inr, ⊎_elim, ◌+◌, ◌*◌, ◌^◌, ◌<◌, ◌≤◌, ℕ, Bool, true, false, IsTrue, List, [], ◌∷◌, length, Option, Some, None, refl, sym, ap, subst, arith, ◌∙◌}
+use Rattle.std.proofs.Common.{◌≡◌, ◌⊎◌, inl, inr, ⊎_elim, ◌+◌, ◌*◌, ◌^◌, ◌&&◌, ◌<◌, ◌≤◌, ℕ, Bool, true, false, IsTrue, List, [], ◌∷◌, length, Option, Some, None, refl, sym, ap, subst, arith, ◌∙◌}
 use Rattle.std.specs.FinMap as fin
 use Rattle.std.specs.Prelude.{IsSome, IsSomeAnd, IfSome, IfOk, IfErr, Result, Ok, Err, nat_eq}
 use Rattle.vault_types.specs.declared.Fault.{Fault}
@@ -26,7 +26,7 @@ use Rattle.keeper_core.proofs.Replacings.{version_there}
 use Rattle.store_model.specs.Causes.{CausesRise, counts_of_shelf}
 use Rattle.store_model.specs.Courses.{fits_show}
 use Rattle.command_runner.specs.Showing.{IsUnread, IsReadersFault, ReadsRecipe}
-use Rattle.serial_delete.specs.Keeping.{IsStateOf}
+use Rattle.keeper_core.specs.Keeping.{IsStateOf}
 use Rattle.keeper_store.proofs.Opening.{same_but}
 use Rattle.commit_laws.proofs.Unique.{kept_number, kept_rules, with_whole, without_whole, plain_of}
 
@@ -118,8 +118,13 @@ module _ (v w : View) (s n : ℕ) (below : s < 256) (kept : (K : Core) → Keeps
     unread (fault.ScriptTooLong m) c = absurd c
     unread (fault.Full x y z) c = absurd c
 
+  own_number : (number : ℕ) → number ≡ s * 2 ^ 32 + n → (nat_eq number (s * 2 ^ 32 + n) && true) ≡ true
+  own_number number is = subst (λ (m : ℕ). (nat_eq m (s * 2 ^ 32 + n) && true) ≡ true) (sym is) (ap (λ (b : Bool). b && true) (own (s * 2 ^ 32 + n)))
+
   damage_kind : (q : Kind) (number : ℕ) (why : Why) → IsRecipeDamage v.told.blobs s n q number why → IsTrue (fits_show s n (Refused (fault.Damaged q number why)))
-  damage_kind kind.Recipe number why h = subst (λ (m : ℕ). nat_eq m (s * 2 ^ 32 + n) ≡ true) (sym h.0) (own (s * 2 ^ 32 + n))
+  damage_kind kind.Recipe number why.Absent h = own_number number h.0
+  damage_kind kind.Recipe number why.Spelling h = own_number number h.0
+  damage_kind kind.Recipe number other h = absurd h.1
   damage_kind kind.Table number why h = absurd h
   damage_kind kind.Payload number why h = absurd h
   damage_kind kind.Floor number why h = absurd h

@@ -1,11 +1,11 @@
 //! The store that the program's words run on: a keeper with no job and no pin, whose calls run lines.
 #![tactic(auto)]
 
-use backup_lines::backup_line;
 use command_runner::ShelfStore;
 use keeper_core::Keeper;
 use script_laws::StateKeeper;
-use script_runner::Store;
+use script_runner::LineStore;
+use serial_backup::backup_line;
 use serial_delete::delete_plain;
 use serial_migrate::migrate_plain;
 use serial_restore::restore_plain;
@@ -36,7 +36,7 @@ impl<S: Shelf> Model for KeeperStore<S> {
 }
 
 impl<S: Shelf> StateKeeper for KeeperStore<S> {
-    ghost use Rattle.serial_delete.specs.Keeping.{IsStateOf, IsKnownStray};
+    ghost use Rattle.keeper_core.specs.Keeping.{IsStateOf, IsKnownStray};
     ghost use Rattle.keeper_store.specs.Kept.{kept_of, known_of};
 
     ghost shelf = { λ k. k.told };
@@ -50,7 +50,7 @@ impl<S: Shelf> StateKeeper for KeeperStore<S> {
     ghost strays_known = { λ k S other keep n stray. known_of k S other keep n stray };
 }
 
-impl<S: Shelf> Store for KeeperStore<S> {
+impl<S: Shelf> LineStore for KeeperStore<S> {
     fn full(&self, set: Set, limits: &Limits) -> bool {
         self.keeper.full(set, limits)
     }

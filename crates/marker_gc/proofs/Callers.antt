@@ -1,41 +1,17 @@
 -- For callers: marks that say the same.
-use Rattle.std.proofs.Common.{◌≡◌, ℕ, Bool, true, false, cond, ◌&&◌, ◌||◌, max, List, [], ◌∷◌, map, refl, sym, ap, ◌∙◌, arith, Option, Some, None}
-use Rattle.std.specs.Prelude.{nat_eq, nat_lt, filter}
-use Rattle.std.specs.Option.{option_map_or}
+use Rattle.std.proofs.Common.{◌≡◌, ℕ, Bool, true, false, cond, ◌&&◌, ◌||◌, List, [], ◌∷◌, map, refl, sym, ap, ◌∙◌}
+use Rattle.std.specs.Prelude.{nat_eq, filter}
 use Rattle.std.specs.List.{list_any}
 use Rattle.std.specs.List.Sorted.{IsPermutation}
-use Rattle.std.proofs.lemmas.Bool.Decides.{nat_tests}
 use Rattle.std.proofs.lemmas.List.Sorted.{list_any-IsPermutation, IsPermutation-map, All-permutation}
 use Rattle.std.proofs.lemmas.List.Elements.{All-from_recursion, recursion_from_All}
-use Rattle.vault_types.specs.Lists.{has, with_number, set_of, greatest}
+use Rattle.vault_types.specs.Lists.{has, set_of, greatest}
 use Rattle.vault_types.specs.Marks.{Mark, marked_ids}
-use Rattle.vault_types.proofs.SetLemmas.{has-set_of, IsAscending-set_of, ascending_unique}
+use Rattle.vault_types.proofs.SetLemmas.{greatest-set_of, has-set_of, IsAscending-set_of, ascending_unique}
 use Rattle.marker_gc.specs.Markers.{is_of, marker_of, AreMarkers}
 use Rattle.marker_gc.proofs.Marking.{has-marked_ids}
 
 -- the greatest number is that of the set
-
-greatest-with_number : (n : ℕ) (ns : List ℕ) → greatest (with_number n ns) ≡ Some (option_map_or (max n) (greatest ns) n)
-greatest-with_number n [] = refl
-greatest-with_number n (m ∷ ms) = step (nat_lt n m) (nat_eq n m) refl (greatest-with_number n ms)
-  where
-    flip : (o : Option ℕ) → max m (option_map_or (max n) o n) ≡ max n (option_map_or (max m) o m)
-    flip None = omega arith
-    flip (Some k) = omega arith
-
-    over : (o : Option ℕ) → n ≡ m → option_map_or (max m) o m ≡ max n (option_map_or (max m) o m)
-    over None e = omega arith
-    over (Some k) e = omega arith
-
-    step : (b c : Bool) → nat_eq n m ≡ c → greatest (with_number n ms) ≡ Some (option_map_or (max n) (greatest ms) n)
-        → greatest (cond b (n ∷ m ∷ ms) (cond c (m ∷ ms) (m ∷ with_number n ms))) ≡ Some (max n (option_map_or (max m) (greatest ms) m))
-    step true c e h = refl
-    step false true e h = let same : n ≡ m = grind (arith, nat_tests) in ap Some (over (greatest ms) same)
-    step false false e h = ap (λ o. Some (option_map_or (max m) o m)) h ∙ ap Some (flip (greatest ms))
-
-greatest-set_of : (ns : List ℕ) → greatest (set_of ns) ≡ greatest ns
-greatest-set_of [] = refl
-greatest-set_of (n ∷ ns) = greatest-with_number n (set_of ns) ∙ ap (λ o. Some (option_map_or (max n) o n)) (greatest-set_of ns)
 
 greatest-same : (ns ms : List ℕ) → ((k : ℕ) → has k ns ≡ has k ms) → greatest ns ≡ greatest ms
 greatest-same ns ms h =

@@ -7,13 +7,13 @@ use Rattle.std.proofs.lemmas.Map.Entries.{option_filter}
 use Rattle.vault_types.specs.Lists.{has}
 use Rattle.vault_types.specs.Marks.{marks_of, marked_ids, marks_above, freed_ids}
 use Rattle.marker_gc.specs.Markers.{marker_of}
-use Rattle.marker_gc.specs.Steps.{MarkerStep, marks_after, stands_above, stands_since, AreBelow, VersionsRise}
+use Rattle.marker_gc.specs.Steps.{MarkerStep, marks_after, stands_above, stands_since, AreEarlier, VersionsRise}
 use Rattle.marker_gc.specs.Steps.MarkerStep.{Committed, Taken}
 use Rattle.marker_gc.proofs.Lists.{has-filter}
 use Rattle.marker_gc.proofs.Marking.{raised, stays, marker_of-more, marker_of-above, all-append, all-marks_of, all-filter, has-marked_ids, named-marker}
 
 -- a list for a version at or above a floor was committed for one that rises above it
-above-below : (version floor c : ℕ) (steps : List MarkerStep) → AreBelow version steps → stands_above floor steps c ≡ true → floor ≤ version
+above-below : (version floor c : ℕ) (steps : List MarkerStep) → AreEarlier version steps → stands_above floor steps c ≡ true → floor ≤ version
 above-below version floor c [] h e = let clash : false ≡ true = e in absurd (cc)
 above-below version floor c (Committed v ids ∷ steps) h e = step (nat_le floor v) refl (has c ids) e (λ f. above-below version floor c steps h.1 f)
   where

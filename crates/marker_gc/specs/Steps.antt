@@ -20,21 +20,22 @@ stands_above floor [] c = false
 stands_above floor (Committed v ids ∷ steps) c = (nat_le floor v && has c ids) || stands_above floor steps c
 stands_above floor (Taken f ∷ steps) c = stands_above floor steps c
 
--- whether it stands in a list that was committed since it was last taken. What is taken stands so, and in no list for a
--- version at or above the floor
+-- whether it stands in a list that was committed since it was last taken. What is taken stands so,
+-- and in no list for a version at or above the floor
 abbrev pub stands_since : List MarkerStep → ℕ → Bool
 stands_since [] c = false
 stands_since (Committed v ids ∷ steps) c = has c ids || stands_since steps c
-stands_since (Taken floor ∷ steps) c = stands_since steps c && not (stands_since steps c && not (stands_above floor steps c))
+stands_since (Taken floor ∷ steps) c =
+    stands_since steps c && not (stands_since steps c && not (stands_above floor steps c))
 
 -- every version is below this one
-abbrev pub AreBelow : ℕ → List MarkerStep → Type 0
-AreBelow version [] = Unit {0}
-AreBelow version (Committed v ids ∷ steps) = (v < version) × AreBelow version steps
-AreBelow version (Taken floor ∷ steps) = AreBelow version steps
+abbrev pub AreEarlier : ℕ → List MarkerStep → Type 0
+AreEarlier version [] = Unit {0}
+AreEarlier version (Committed v ids ∷ steps) = (v < version) × AreEarlier version steps
+AreEarlier version (Taken floor ∷ steps) = AreEarlier version steps
 
 -- each version is greater than those before
 abbrev pub VersionsRise : List MarkerStep → Type 0
 VersionsRise [] = Unit {0}
-VersionsRise (Committed v ids ∷ steps) = AreBelow v steps × VersionsRise steps
+VersionsRise (Committed v ids ∷ steps) = AreEarlier v steps × VersionsRise steps
 VersionsRise (Taken floor ∷ steps) = VersionsRise steps

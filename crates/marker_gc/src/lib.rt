@@ -52,7 +52,8 @@ impl Markers {
         ensures made { OnOk result (more ≤ self.new.room) }
         ensures room { self.old.room ≤ self.new.room }
         ensures count { length self.new.markers ≡ length self.old.markers }
-        ensures same { (s : ℕ) (marks : List Mark) → AreMarkers self.old.markers s marks → AreMarkers self.new.markers s marks }
+        ensures same { (s : ℕ) (marks : List Mark) → AreMarkers self.old.markers s marks
+            → AreMarkers self.new.markers s marks }
     {
         self.markers.reserve(more)?;
         Ok(())
@@ -63,14 +64,16 @@ impl Markers {
     pub fn commit(&mut self, version: Version, ids: &[Id])
         requires { length ids.now ≤ self.old.room }
         ensures room { self.old.room ≤ self.new.room + length ids.now }
-        ensures marks { (s : ℕ) (marks : List Mark) → AreMarkers self.old.markers s marks → AreMarkers self.new.markers s (marks ++ marks_of s version ids.now) }
+        ensures marks { (s : ℕ) (marks : List Mark) → AreMarkers self.old.markers s marks
+            → AreMarkers self.new.markers s (marks ++ marks_of s version ids.now) }
     {
         mark_all(&mut self.markers, version, ids);
     }
 
     /// Whether a version names the container. Takes no memory.
     pub fn named(&self, id: Id) -> bool
-        ensures { (s : ℕ) (marks : List Mark) → AreMarkers self.now.markers s marks → result ≡ has id (marked_ids marks) }
+        ensures { (s : ℕ) (marks : List Mark) → AreMarkers self.now.markers s marks
+            → result ≡ has id (marked_ids marks) }
     {
         self.markers.contains_key(&id)
     }
@@ -78,7 +81,8 @@ impl Markers {
     /// How many containers are named. Takes no memory.
     pub fn count(&self) -> usize
         ensures count { result ≡ length self.now.markers }
-        ensures ids { (s : ℕ) (marks : List Mark) → AreMarkers self.now.markers s marks → result ≡ length (marked_ids marks) }
+        ensures ids { (s : ℕ) (marks : List Mark) → AreMarkers self.now.markers s marks
+            → result ≡ length (marked_ids marks) }
     {
         self.markers.len()
     }
@@ -87,8 +91,10 @@ impl Markers {
     /// for as many ids as are named. Takes no memory.
     pub fn take_below(&mut self, floor: Version, out: &mut Vec<Id>)
         requires { vec_len out.old + length self.old.markers ≤ vec_capacity out.old }
-        ensures freed { (s : ℕ) (marks : List Mark) → AreMarkers self.old.markers s marks → out.new.items ≡ out.old.items ++ freed_ids s floor marks }
-        ensures left { (s : ℕ) (marks : List Mark) → AreMarkers self.old.markers s marks → AreMarkers self.new.markers s (marks_above s floor marks) }
+        ensures freed { (s : ℕ) (marks : List Mark) → AreMarkers self.old.markers s marks
+            → out.new.items ≡ out.old.items ++ freed_ids s floor marks }
+        ensures left { (s : ℕ) (marks : List Mark) → AreMarkers self.old.markers s marks
+            → AreMarkers self.new.markers s (marks_above s floor marks) }
         ensures room { self.old.room ≤ self.new.room }
         ensures capacity { vec_capacity out.old ≤ vec_capacity out.new }
     {
@@ -102,6 +108,9 @@ impl Markers {
 /// However the markers came about, with versions that rise: what is named stands in some list that was committed since it
 /// was last taken, and what a floor takes of it stands in no list for a version at or above the floor.
 pub fn taken_ids_are_in_no_newer_list()
-    ensures named { (s c : ℕ) (steps : List MarkerStep) → VersionsRise steps → has c (marked_ids (marks_after s steps)) ≡ stands_since steps c }
-    ensures taken { (s floor c : ℕ) (steps : List MarkerStep) → VersionsRise steps → has c (freed_ids s floor (marks_after s steps)) ≡ (stands_since steps c && not (stands_above floor steps c)) }
+    ensures named { (s c : ℕ) (steps : List MarkerStep) → VersionsRise steps
+        → has c (marked_ids (marks_after s steps)) ≡ stands_since steps c }
+    ensures taken { (s floor c : ℕ) (steps : List MarkerStep) → VersionsRise steps
+        → has c (freed_ids s floor (marks_after s steps))
+        ≡ (stands_since steps c && not (stands_above floor steps c)) }
 {}

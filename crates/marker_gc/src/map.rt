@@ -12,7 +12,11 @@ use vault_types::{Id, Version};
 /// Marks a container that a version names.
 fn mark(markers: &mut HashMap<Id, Version>, version: Version, id: Id)
     requires { 1 ≤ spare markers.old }
-    ensures marked { (c : ℕ) → lookup (nat_eq c) markers.new.entries ≡ (if nat_eq id c then Some (option_map_or (max version) (lookup (nat_eq c) markers.old.entries) version) else lookup (nat_eq c) markers.old.entries) }
+    ensures marked { (c : ℕ)
+        → lookup (nat_eq c) markers.new.entries
+        ≡ (if nat_eq id c
+        then Some (option_map_or (max version) (lookup (nat_eq c) markers.old.entries) version)
+        else lookup (nat_eq c) markers.old.entries) }
     ensures once { IsUnique nat_eq markers.new }
     ensures room { spare markers.old ≤ spare markers.new + 1 }
 {
@@ -26,7 +30,11 @@ fn mark(markers: &mut HashMap<Id, Version>, version: Version, id: Id)
 /// Marks the containers that a version names.
 pub fn mark_all(markers: &mut HashMap<Id, Version>, version: Version, ids: &[Id])
     requires { length ids.now ≤ spare markers.old }
-    ensures marked { (c : ℕ) → lookup (nat_eq c) markers.new.entries ≡ (if has c ids.now then Some (option_map_or (max version) (lookup (nat_eq c) markers.old.entries) version) else lookup (nat_eq c) markers.old.entries) }
+    ensures marked { (c : ℕ)
+        → lookup (nat_eq c) markers.new.entries
+        ≡ (if has c ids.now
+        then Some (option_map_or (max version) (lookup (nat_eq c) markers.old.entries) version)
+        else lookup (nat_eq c) markers.old.entries) }
     ensures once { IsUnique nat_eq markers.old → IsUnique nat_eq markers.new }
     ensures room { spare markers.old ≤ spare markers.new + length ids.now }
 {

@@ -88,7 +88,8 @@ fn carry_out(alloc: Global, shelf: &mut MemShelf, step: &Step) -> Result<(), Fai
 impl Shelf for Recorded {
     ghost use Rattle.vault_ports.specs.Mem.{none_told};
 
-    ghost told = { λ s. record { blobs = Some s.inner.blobs; history = None; faults = s.inner.faults; gets = s.inner.gets } };
+    ghost told = { λ s.
+        record { blobs = Some s.inner.blobs; history = None; faults = s.inner.faults; gets = s.inner.gets } };
 
     fn get(&mut self, alloc: Global, name: Name) -> Result<Option<Vec<u8>>, Refused> {
         self.inner.get(alloc, name)

@@ -15,7 +15,7 @@ use Rattle.blob_parts.specs.Recipes.{FitIds, HasWidths}
 use Rattle.blob_parts.proofs.Fields.{IsField, IsTag, fp_field, u32_field, u64_field, tag_field, both_field, made_field, list_field}
 use Rattle.blob_parts.proofs.RuleLemmas.{has_widths}
 use Rattle.recipe_form2.specs.Spelling.{SpellsRecipe2}
-use Rattle.recipe_form2.specs.Reading.{tag_2, is_few, recipe_of, recipe_at}
+use Rattle.recipe_form2.specs.Reading.{tag_2, is_few, recipe_from_fields, recipe_at}
 use Rattle.recipe_form2.proofs.RunField.{Begins, HasRuns, has_runs, row_widths, begins, all_runs_bytes, rows_field}
 
 -- the blob of a recipe whose version has this sum, without the sum of the blob
@@ -53,7 +53,7 @@ PartsFit p =
 recipe_back : Recipe → Parts
 recipe_back r = (tag_2, (r.version, (r.next, (r.length, (unwrap_or r.whole no_sum, (r.rows, r.sparse))))))
 
-there : (set : ℕ) (p : Parts) → PartsFit p → IsSecond set (recipe_of set p) × (head_2 (recipe_of set p) ≡ parts_bytes p)
+there : (set : ℕ) (p : Parts) → PartsFit p → IsSecond set (recipe_from_fields set p) × (head_2 (recipe_from_fields set p) ≡ parts_bytes p)
 there set p fits =
     let tag : tag_2 ≡ p.0 = sym (eqb-true p.0 tag_2 fits.0.1) in
     let rows = fits.1.1.1.1.1.0 in
@@ -86,7 +86,7 @@ sum_of : (o : Option Fp) → IsSome o → IfSome o IsFp → IsFp (unwrap_or o no
 sum_of None some fits = absurd (none_is some)
 sum_of (Some w) some fits = fits
 
-back : (set : ℕ) (r : Recipe) → IsSecond set r → PartsFit (recipe_back r) × (recipe_of set (recipe_back r) ≡ r)
+back : (set : ℕ) (r : Recipe) → IsSecond set r → PartsFit (recipe_back r) × (recipe_from_fields set (recipe_back r) ≡ r)
 unfolding recipe_back
 back set r fits =
     let w = fits.widths in
@@ -100,7 +100,7 @@ unfolding recipe_at
 recipe_field set =
     made_field
     (both_field (tag_field tag_2) (λ t tag. both_field u32_field (λ version fits. both_field u64_field (λ next fit. both_field u64_field (λ len fitting. both_field fp_field (λ whole sum. both_field rows_field (λ rows all. ids_field)))))))
-    (recipe_of set) recipe_back head_2 (IsSecond set) (there set) (back set)
+    (recipe_from_fields set) recipe_back head_2 (IsSecond set) (there set) (back set)
 
 -- ---- spelling
 

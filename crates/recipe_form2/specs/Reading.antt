@@ -26,14 +26,17 @@ abbrev pub opens : ℕ → Run → Bool
 opens before run = not (run.id == before) && nat_lt 0 (length run.rows)
 
 abbrev pub run_at : ℕ → Field Run
-run_at before = tested_at (opens before) (made_at run_of (both_at (number_at w64) (λ id. list_at 24 (row_at id))))
+run_at before =
+    tested_at (opens before) (made_at run_of (both_at (number_at w64) (λ id. list_at 24 (row_at id))))
 
 -- the rows of n runs
 abbrev pub runs_at : ℕ → ℕ → Field (List Row)
 runs_at before zero bytes = Some ([], bytes)
-runs_at before (suc n) bytes = run_at before bytes >>= λ run. runs_at run.0.id n run.1 >>= λ rows. Some (run.0.rows ++ rows.0, rows.1)
+runs_at before (suc n) bytes =
+    run_at before bytes >>= λ run. runs_at run.0.id n run.1 >>= λ rows. Some (run.0.rows ++ rows.0, rows.1)
 
--- a count and the rows of so many runs, of which there are as many as a count can say. No container has the id 0
+-- a count and the rows of so many runs, of which there are as many as a count can say. No container
+-- has the id 0
 abbrev pub is_few : List Row → Bool
 is_few rows = nat_lt (length rows) 4294967296
 
@@ -43,12 +46,28 @@ all_runs_at bytes = number_at w32 bytes >>= λ n. runs_at 0 n.0 n.1
 abbrev pub rows_at : Field (List Row)
 rows_at = tested_at is_few all_runs_at
 
-abbrev pub recipe_of : ℕ → ℕ × (ℕ × (ℕ × (ℕ × (Fp × (List Row × List ℕ))))) → Recipe
-recipe_of set p =
-    record { set = set; version = p.1.0; next = p.1.1.0; length = p.1.1.1.0; rows = p.1.1.1.1.1.0; sparse = p.1.1.1.1.1.1; whole = Some p.1.1.1.1.0 }
+abbrev pub recipe_from_fields : ℕ → ℕ × (ℕ × (ℕ × (ℕ × (Fp × (List Row × List ℕ))))) → Recipe
+recipe_from_fields set p =
+    record {
+      set = set;
+      version = p.1.0;
+      next = p.1.1.0;
+      length = p.1.1.1.0;
+      rows = p.1.1.1.1.1.0;
+      sparse = p.1.1.1.1.1.1;
+      whole = Some p.1.1.1.1.0;
+    }
 
 -- all of a recipe of this set but the sum of the blob
 unfoldable pub recipe_at : ℕ → Field Recipe
 recipe_at set =
-    made_at (recipe_of set)
-    (both_at (tag_at tag_2) (λ _. both_at (number_at w32) (λ _. both_at (number_at w64) (λ _. both_at (number_at w64) (λ _. both_at fp_at (λ _. both_at rows_at (λ _. list_at 8 (number_at w64))))))))
+    made_at (recipe_from_fields set)
+    (both_at (tag_at tag_2)
+    (λ _.
+    both_at (number_at w32)
+    (λ _.
+    both_at (number_at w64)
+    (λ _.
+    both_at (number_at w64)
+    (λ _.
+    both_at fp_at (λ _. both_at rows_at (λ _. list_at 8 (number_at w64))))))))

@@ -35,6 +35,8 @@ pub fn decode2(
 /// Of the recipes that have a sum of their version, each has one spelling, and no spelling begins another of the same
 /// version.
 pub fn recipes_are_told_apart()
-    ensures one { (s v : ℕ) (r : Recipes) (a b : List ℕ) → SpellsRecipe2 s v a r → SpellsRecipe2 s v b r → a ≡ b }
-    ensures apart { (s v : ℕ) (r q : Recipes) (a b more : List ℕ) → SpellsRecipe2 s v a r → SpellsRecipe2 s v b q → a ++ more ≡ b → (r ≡ q) × (more ≡ []) }
+    ensures one { (s v : ℕ) (r : Recipes) (a b : List ℕ) → SpellsRecipe2 s v a r → SpellsRecipe2 s v b r
+        → a ≡ b }
+    ensures apart { (s v : ℕ) (r q : Recipes) (a b more : List ℕ) → SpellsRecipe2 s v a r
+        → SpellsRecipe2 s v b q → a ++ more ≡ b → (r ≡ q) × (more ≡ []) }
 {}

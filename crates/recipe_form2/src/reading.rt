@@ -1,7 +1,7 @@
 // Reading a recipe in format 2.
 ghost use Rattle.std.specs.Prelude.{◌≡◌, IfOk, IsErrOf};
 ghost use Rattle.vault_types.specs.declared.Recipe.{Recipe as Recipes};
-ghost use Rattle.blob_parts.specs.Reading.{Gives, many_at, wide_at, list_at};
+ghost use Rattle.blob_parts.specs.Reading.{ReadsAs, many_at, wide_at, list_at};
 ghost use Rattle.recipe_form2.specs.Spelling.{SpellsRecipe2, IsNoRecipe2};
 ghost use Rattle.recipe_form2.specs.Reading.{row_at, run_at, runs_at, all_runs_at, rows_at, recipe_at};
 ghost use Rattle.recipe_form2.specs.Runs.{run_seen};
@@ -47,7 +47,7 @@ pub fn read_recipe(
 // All of a recipe of this set but the sum of the blob, and what is behind it.
 #[tactic(auto, unfolding(crate::specs::Reading::recipe_at))]
 fn recipe_at(alloc: Global, bytes: &[u8], set: Set) -> Result<(Recipe, &[u8]), Unread>
-    ensures { Gives (λ x. (x.0, x.1.now)) result (recipe_at set bytes.now) }
+    ensures { ReadsAs (λ x. (x.0, x.1.now)) result (recipe_at set bytes.now) }
 {
     let rest = tag_at(bytes, TAG)?;
     let (version, rest) = u32_at(rest)?;
@@ -69,7 +69,7 @@ fn recipe_at(alloc: Global, bytes: &[u8], set: Set) -> Result<(Recipe, &[u8]), U
 }
 
 fn rows_at(alloc: Global, bytes: &[u8]) -> Result<(Vec<Row>, &[u8]), Unread>
-    ensures { Gives (λ x. (x.0.items, x.1.now)) result (rows_at bytes.now) }
+    ensures { ReadsAs (λ x. (x.0.items, x.1.now)) result (rows_at bytes.now) }
 {
     let (rows, rest) = all_runs_at(alloc, bytes)?;
     if rows.len() >= 4_294_967_296 {
@@ -79,14 +79,14 @@ fn rows_at(alloc: Global, bytes: &[u8]) -> Result<(Vec<Row>, &[u8]), Unread>
 }
 
 fn all_runs_at(alloc: Global, bytes: &[u8]) -> Result<(Vec<Row>, &[u8]), Unread>
-    ensures { Gives (λ x. (x.0.items, x.1.now)) result (all_runs_at bytes.now) }
+    ensures { ReadsAs (λ x. (x.0.items, x.1.now)) result (all_runs_at bytes.now) }
 {
     let (count, rest) = u32_at(bytes)?;
     runs_at(alloc, count, rest)
 }
 
 fn runs_at(alloc: Global, count: u32, bytes: &[u8]) -> Result<(Vec<Row>, &[u8]), Unread>
-    ensures { Gives (λ x. (x.0.items, x.1.now)) result (runs_at 0 count bytes.now) }
+    ensures { ReadsAs (λ x. (x.0.items, x.1.now)) result (runs_at 0 count bytes.now) }
 {
     let mut rows = Vec::new(alloc);
     let mut before = 0;
@@ -101,7 +101,7 @@ fn runs_at(alloc: Global, count: u32, bytes: &[u8]) -> Result<(Vec<Row>, &[u8]),
 }
 
 fn run_at(alloc: Global, before: Id, bytes: &[u8]) -> Result<(Run, &[u8]), Unread>
-    ensures { Gives (λ x. (run_seen x.0.id x.0.rows.items, x.1.now)) result (run_at before bytes.now) }
+    ensures { ReadsAs (λ x. (run_seen x.0.id x.0.rows.items, x.1.now)) result (run_at before bytes.now) }
 {
     let (id, rest) = u64_at(bytes)?;
     let (rows, rest) = run_rows(alloc, id, rest)?;
@@ -112,14 +112,14 @@ fn run_at(alloc: Global, before: Id, bytes: &[u8]) -> Result<(Run, &[u8]), Unrea
 }
 
 fn run_rows(alloc: Global, id: Id, bytes: &[u8]) -> Result<(Vec<Row>, &[u8]), Unread>
-    ensures { Gives (λ x. (x.0.items, x.1.now)) result (list_at 24 (row_at id) bytes.now) }
+    ensures { ReadsAs (λ x. (x.0.items, x.1.now)) result (list_at 24 (row_at id) bytes.now) }
 {
     let (count, rest) = u32_at(bytes)?;
     some_rows(alloc, id, count, rest)
 }
 
 fn some_rows(alloc: Global, id: Id, count: u32, bytes: &[u8]) -> Result<(Vec<Row>, &[u8]), Unread>
-    ensures { Gives (λ x. (x.0.items, x.1.now)) result (wide_at 24 (row_at id) count bytes.now) }
+    ensures { ReadsAs (λ x. (x.0.items, x.1.now)) result (wide_at 24 (row_at id) count bytes.now) }
 {
     let count = count as usize;
     if bytes.len() < 24 * count {
@@ -129,7 +129,7 @@ fn some_rows(alloc: Global, id: Id, count: u32, bytes: &[u8]) -> Result<(Vec<Row
 }
 
 fn many_rows(alloc: Global, id: Id, count: usize, bytes: &[u8]) -> Result<(Vec<Row>, &[u8]), Unread>
-    ensures { Gives (λ x. (x.0.items, x.1.now)) result (many_at (row_at id) count bytes.now) }
+    ensures { ReadsAs (λ x. (x.0.items, x.1.now)) result (many_at (row_at id) count bytes.now) }
 {
     let mut rows = Vec::with_capacity(alloc, count)?;
     let mut rest = bytes;
@@ -142,7 +142,7 @@ fn many_rows(alloc: Global, id: Id, count: usize, bytes: &[u8]) -> Result<(Vec<R
 }
 
 fn row_at(id: Id, bytes: &[u8]) -> Result<(Row, &[u8]), Unread>
-    ensures { Gives (λ x. (x.0, x.1.now)) result (row_at id bytes.now) }
+    ensures { ReadsAs (λ x. (x.0, x.1.now)) result (row_at id bytes.now) }
 {
     let (fp, rest) = fp_at(bytes)?;
     let (len, rest) = u32_at(rest)?;

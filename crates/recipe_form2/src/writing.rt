@@ -102,7 +102,8 @@ fn push_runs(blob: &mut Vec<u8>, rows: &[Row]) -> Result<(), AllocError>
 
 fn push_run(blob: &mut Vec<u8>, id: Id, rows: &[Row]) -> Result<(), AllocError>
     requires { length rows.now < 2 ^ 32 }
-    ensures { OnOk result (blob.new.items ≡ blob.old.items ++ run_bytes (record { id = id; rows = rows.now })) }
+    ensures { OnOk result
+        (blob.new.items ≡ blob.old.items ++ run_bytes (record { id = id; rows = rows.now })) }
 {
     push_u64(blob, id)?;
     push_u32(blob, rows.len() as u32)?;

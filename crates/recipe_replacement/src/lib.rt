@@ -28,16 +28,24 @@ pub fn replace_recipe<S: Shelf>(
     recipe: &Recipe,
 ) -> Result<(), Fault>
     requires { IsRecipe recipe.now }
-    ensures ok { OnOk result ((S.told shelf.new).blobs ≡ blobs_with (S.told shelf.old).blobs (recipe_name recipe.now.set recipe.now.version) (Some (recipe_bytes recipe.now))) }
-    ensures at_most { ((S.told shelf.new).blobs ≡ (S.told shelf.old).blobs) ⊎ ((S.told shelf.new).blobs ≡ blobs_with (S.told shelf.old).blobs (recipe_name recipe.now.set recipe.now.version) (Some (recipe_bytes recipe.now))) }
+    ensures ok { OnOk result
+        ((S.told shelf.new).blobs
+        ≡ blobs_with (S.told shelf.old).blobs (recipe_name recipe.now.set recipe.now.version)
+        (Some (recipe_bytes recipe.now))) }
+    ensures at_most { ((S.told shelf.new).blobs ≡ (S.told shelf.old).blobs)
+        ⊎ ((S.told shelf.new).blobs
+        ≡ blobs_with (S.told shelf.old).blobs (recipe_name recipe.now.set recipe.now.version)
+        (Some (recipe_bytes recipe.now))) }
     ensures held { (K : Core) → K.other ≡ None → IsRecipeOfIfTold (S.told shelf.old).blobs K.state recipe.now
         → HeldIfTold (S.told shelf.old).blobs K → HeldIfTold (S.told shelf.new).blobs K }
 
     // A crash at any moment leaves the state, with the old or the new recipe; so it does at `Ok`, whatever could be left
     // before.
-    ensures any_moment { (A : State) → IsRecipeOfIfTold (S.told shelf.old).blobs A recipe.now → LeavesNowIfTold (S.told shelf.old).history (IsNear A None)
+    ensures any_moment { (A : State) → IsRecipeOfIfTold (S.told shelf.old).blobs A recipe.now
+        → LeavesNowIfTold (S.told shelf.old).history (IsNear A None)
         → LeavesOnlyIfTold (S.told shelf.old).history (S.told shelf.new).history (IsNear A None) }
-    ensures acknowledged { OnOk result ((A : State) → IsRecipeOfIfTold (S.told shelf.old).blobs A recipe.now → IfSome (S.told shelf.old).blobs (λ m. Stands m A)
+    ensures acknowledged { OnOk result ((A : State) → IsRecipeOfIfTold (S.told shelf.old).blobs A recipe.now
+        → IfSome (S.told shelf.old).blobs (λ m. Stands m A)
         → LeavesNowIfTold (S.told shelf.new).history (IsNear A None)) }
     ensures due { IfErr result (λ f. pending.new ≡ waits_after f recipe.now pending.old) }
     ensures not_due { OnOk result (pending.new ≡ pending.old) }

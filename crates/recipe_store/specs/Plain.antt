@@ -19,18 +19,35 @@ abbrev pub row_at : Field Row
 row_at = made_at row_of (both_at fp_at (λ _. both_at (number_at w64) (λ _. number_at w32)))
 
 abbrev pub plain_of : ℕ → ℕ × (ℕ × (ℕ × (ℕ × (List Row × List ℕ)))) → Recipe
-plain_of set p = record { set = set; version = p.1.0; next = p.1.1.0; length = p.1.1.1.0; rows = p.1.1.1.1.0; sparse = p.1.1.1.1.1; whole = None }
+plain_of set p =
+    record {
+      set = set;
+      version = p.1.0;
+      next = p.1.1.0;
+      length = p.1.1.1.0;
+      rows = p.1.1.1.1.0;
+      sparse = p.1.1.1.1.1;
+      whole = None;
+    }
 
 -- all of a recipe of this set but the sum of the blob
 unfoldable pub plain_at : ℕ → Field Recipe
 plain_at set =
     made_at (plain_of set)
-    (both_at (tag_at plain_tag) (λ _. both_at (number_at w32) (λ _. both_at (number_at w64) (λ _. both_at (number_at w64) (λ _. both_at (list_at 32 row_at) (λ _. list_at 8 (number_at w64)))))))
+    (both_at (tag_at plain_tag)
+    (λ _.
+    both_at (number_at w32)
+    (λ _.
+    both_at (number_at w64)
+    (λ _.
+    both_at (number_at w64)
+    (λ _. both_at (list_at 32 row_at) (λ _. list_at 8 (number_at w64)))))))
 
 -- the blob of a recipe without its sum
 abbrev pub plain_head : Recipe → List ℕ
 plain_head r =
-    codes "DRC1" ++ u32_bytes r.version ++ u64_bytes r.next ++ u64_bytes r.length ++ u32_bytes (length r.rows) ++ flat_map row_bytes_1 r.rows ++ sparse_bytes r.sparse
+    codes "DRC1" ++ u32_bytes r.version ++ u64_bytes r.next ++ u64_bytes r.length ++ u32_bytes (length r.rows)
+    ++ flat_map row_bytes_1 r.rows ++ sparse_bytes r.sparse
 
 -- what is read so: a recipe of this set, without a sum of its version
 pub record IsPlain (s : ℕ) (r : Recipe) : Type 0 where

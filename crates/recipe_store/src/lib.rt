@@ -91,9 +91,12 @@ pub fn decode_floor(bytes: &[u8], set: Set) -> Option<Version>
 /// Puts a recipe. `StoreFault`, `Memory`.
 pub fn put_recipe<S: Shelf>(alloc: Global, shelf: &mut S, recipe: &Recipe) -> Result<(), Fault>
     requires { IsRecipe recipe.now }
-    ensures ok { OnOk result (IsWritten (S.told shelf.old).blobs (S.told shelf.new).blobs (S.told shelf.old).history (S.told shelf.new).history
+    ensures ok { OnOk result
+        (IsWritten (S.told shelf.old).blobs (S.told shelf.new).blobs (S.told shelf.old).history
+        (S.told shelf.new).history
         (recipe_name recipe.now.set recipe.now.version) (Some (recipe_bytes recipe.now))) }
-    ensures at_most { MayBeWritten (S.told shelf.old).blobs (S.told shelf.new).blobs (S.told shelf.old).history (S.told shelf.new).history
+    ensures at_most { MayBeWritten (S.told shelf.old).blobs (S.told shelf.new).blobs
+        (S.told shelf.old).history (S.told shelf.new).history
         (recipe_name recipe.now.set recipe.now.version) (Some (recipe_bytes recipe.now)) }
     ensures memory { IsErrOf result fault.Memory → IsAsBefore (S.told shelf.old) (S.told shelf.new) }
     ensures gets { (S.told shelf.new).gets ≡ (S.told shelf.old).gets }
@@ -117,10 +120,13 @@ pub fn get_recipe<S: Shelf>(
     set: Set,
     version: Version,
 ) -> Result<Recipe, Fault>
-    ensures found { IfOk result (λ r. (bytes : List ℕ) × Has (S.told shelf.old).blobs (recipe_name set version) (Some bytes) × SpellsRecipe set version bytes r) }
+    ensures found { IfOk result (λ r. (bytes : List ℕ)
+        × Has (S.told shelf.old).blobs (recipe_name set version) (Some bytes)
+        × SpellsRecipe set version bytes r) }
     ensures kept { IsAsBefore (S.told shelf.old) (S.told shelf.new) }
     ensures gets { (S.told shelf.new).gets ≡ (S.told shelf.old).gets }
-    ensures causes { HasCauses (S.told shelf.old).faults (S.told shelf.new).faults (IsRecipeDamage (S.told shelf.old).blobs set version) result }
+    ensures causes { HasCauses (S.told shelf.old).faults (S.told shelf.new).faults
+        (IsRecipeDamage (S.told shelf.old).blobs set version) result }
 {
     let name = Name::recipe(set, version);
     let bytes = match shelf.get(alloc, name) {
@@ -139,7 +145,8 @@ pub fn get_floor<S: Shelf>(alloc: Global, shelf: &mut S, set: Set) -> Result<Ver
     ensures found { IfOk result (λ floor. IsFloorIn (S.told shelf.old).blobs set floor) }
     ensures kept { IsAsBefore (S.told shelf.old) (S.told shelf.new) }
     ensures gets { (S.told shelf.new).gets ≡ (S.told shelf.old).gets }
-    ensures causes { HasCauses (S.told shelf.old).faults (S.told shelf.new).faults (IsFloorDamage (S.told shelf.old).blobs set) result }
+    ensures causes { HasCauses (S.told shelf.old).faults (S.told shelf.new).faults
+        (IsFloorDamage (S.told shelf.old).blobs set) result }
 {
     let name = Name::floor(set);
     let bytes = match shelf.get(alloc, name) {
@@ -156,9 +163,12 @@ pub fn get_floor<S: Shelf>(alloc: Global, shelf: &mut S, set: Set) -> Result<Ver
 /// Sets the floor of a set. `StoreFault`. Takes no memory.
 pub fn put_floor<S: Shelf>(shelf: &mut S, set: Set, floor: Version) -> Result<(), Fault>
     requires { IsVersion floor }
-    ensures ok { OnOk result (IsWritten (S.told shelf.old).blobs (S.told shelf.new).blobs (S.told shelf.old).history (S.told shelf.new).history
+    ensures ok { OnOk result
+        (IsWritten (S.told shelf.old).blobs (S.told shelf.new).blobs (S.told shelf.old).history
+        (S.told shelf.new).history
         (floor_name set) (Some (floor_bytes set floor))) }
-    ensures at_most { MayBeWritten (S.told shelf.old).blobs (S.told shelf.new).blobs (S.told shelf.old).history (S.told shelf.new).history
+    ensures at_most { MayBeWritten (S.told shelf.old).blobs (S.told shelf.new).blobs
+        (S.told shelf.old).history (S.told shelf.new).history
         (floor_name set) (Some (floor_bytes set floor)) }
     ensures gets { (S.told shelf.new).gets ≡ (S.told shelf.old).gets }
     ensures causes { HasStoreFault (S.told shelf.old).faults (S.told shelf.new).faults result }
@@ -172,9 +182,12 @@ pub fn put_floor<S: Shelf>(shelf: &mut S, set: Set, floor: Version) -> Result<()
 
 /// Takes the recipe of a version of a set out. Takes no memory.
 pub fn remove_recipe<S: Shelf>(shelf: &mut S, set: Set, version: Version) -> Result<(), Failed>
-    ensures ok { OnOk result (IsWritten (S.told shelf.old).blobs (S.told shelf.new).blobs (S.told shelf.old).history (S.told shelf.new).history
+    ensures ok { OnOk result
+        (IsWritten (S.told shelf.old).blobs (S.told shelf.new).blobs (S.told shelf.old).history
+        (S.told shelf.new).history
         (recipe_name set version) None) }
-    ensures at_most { MayBeWritten (S.told shelf.old).blobs (S.told shelf.new).blobs (S.told shelf.old).history (S.told shelf.new).history
+    ensures at_most { MayBeWritten (S.told shelf.old).blobs (S.told shelf.new).blobs
+        (S.told shelf.old).history (S.told shelf.new).history
         (recipe_name set version) None }
     ensures gets { (S.told shelf.new).gets ≡ (S.told shelf.old).gets }
     ensures cause { HasFailed (S.told shelf.old).faults (S.told shelf.new).faults result }
@@ -207,12 +220,15 @@ fn damaged(name: Name, why: Why) -> Fault
 
 /// Each recipe has one spelling, and no spelling of a recipe, in either format, begins another of the same version.
 pub fn recipes_are_told_apart()
-    ensures one { (s v : ℕ) (r : Recipes) (a b : List ℕ) → SpellsRecipe s v a r → SpellsRecipe s v b r → a ≡ b }
-    ensures apart { (s v : ℕ) (r q : Recipes) (a b more : List ℕ) → SpellsRecipe s v a r → SpellsRecipe s v b q → a ++ more ≡ b → (r ≡ q) × (more ≡ []) }
+    ensures one { (s v : ℕ) (r : Recipes) (a b : List ℕ) → SpellsRecipe s v a r → SpellsRecipe s v b r
+        → a ≡ b }
+    ensures apart { (s v : ℕ) (r q : Recipes) (a b more : List ℕ) → SpellsRecipe s v a r
+        → SpellsRecipe s v b q → a ++ more ≡ b → (r ≡ q) × (more ≡ []) }
 {}
 
 /// Each floor has one spelling, and no spelling of a floor begins another of the same set.
 pub fn floors_are_told_apart()
     ensures one { (s f : ℕ) (a b : List ℕ) → SpellsFloor s a f → SpellsFloor s b f → a ≡ b }
-    ensures apart { (s f g : ℕ) (a b more : List ℕ) → SpellsFloor s a f → SpellsFloor s b g → a ++ more ≡ b → (f ≡ g) × (more ≡ []) }
+    ensures apart { (s f g : ℕ) (a b more : List ℕ) → SpellsFloor s a f → SpellsFloor s b g → a ++ more ≡ b
+        → (f ≡ g) × (more ≡ []) }
 {}

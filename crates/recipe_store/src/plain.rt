@@ -3,7 +3,7 @@ ghost use Rattle.std.specs.Prelude.{◌≡◌, ◌++◌, ◌<◌, ◌^◌, lengt
 ghost use Rattle.std.specs.Int.{w64};
 ghost use Rattle.vault_types.specs.declared.Recipe.{Recipe as Recipes};
 ghost use Rattle.vault_types.specs.Blobs.{recipe_bytes_1, row_bytes_1, IsRecipe, SpellsRecipe};
-ghost use Rattle.blob_parts.specs.Reading.{Gives, many_at, wide_at, list_at};
+ghost use Rattle.blob_parts.specs.Reading.{ReadsAs, many_at, wide_at, list_at};
 ghost use Rattle.recipe_store.specs.Plain.{row_at, plain_at};
 
 use blob_parts::{
@@ -57,7 +57,8 @@ fn push_rows(blob: &mut Vec<u8>, rows: &[Row]) -> Result<(), AllocError>
 /// The recipe of a version of a set that the bytes spell in format 1.
 pub fn read_plain(alloc: Global, bytes: &[u8], set: Set, version: Version) -> Result<Recipe, Unread>
     ensures found { IfOk result (λ r. SpellsRecipe set version bytes.now r) }
-    ensures none { IsErrOf result Unread.Spelling → (r : Recipes) → r.whole ≡ None → SpellsRecipe set version bytes.now r → ⊥ }
+    ensures none { IsErrOf result Unread.Spelling → (r : Recipes) → r.whole ≡ None
+        → SpellsRecipe set version bytes.now r → ⊥ }
 {
     let Some(body) = body_of(bytes, set) else {
         return Err(Unread::Spelling);
@@ -75,7 +76,7 @@ pub fn read_plain(alloc: Global, bytes: &[u8], set: Set, version: Version) -> Re
 // All of a recipe of this set but the sum of the blob, and what is behind it.
 #[tactic(auto, unfolding(crate::specs::Plain::plain_at))]
 fn plain_at(alloc: Global, bytes: &[u8], set: Set) -> Result<(Recipe, &[u8]), Unread>
-    ensures { Gives (λ x. (x.0, x.1.now)) result (plain_at set bytes.now) }
+    ensures { ReadsAs (λ x. (x.0, x.1.now)) result (plain_at set bytes.now) }
 {
     let rest = tag_at(bytes, TAG)?;
     let (version, rest) = u32_at(rest)?;
@@ -96,14 +97,14 @@ fn plain_at(alloc: Global, bytes: &[u8], set: Set) -> Result<(Recipe, &[u8]), Un
 }
 
 fn rows_at(alloc: Global, bytes: &[u8]) -> Result<(Vec<Row>, &[u8]), Unread>
-    ensures { Gives (λ x. (x.0.items, x.1.now)) result (list_at 32 row_at bytes.now) }
+    ensures { ReadsAs (λ x. (x.0.items, x.1.now)) result (list_at 32 row_at bytes.now) }
 {
     let (count, rest) = u32_at(bytes)?;
     some_rows(alloc, count, rest)
 }
 
 fn some_rows(alloc: Global, count: u32, bytes: &[u8]) -> Result<(Vec<Row>, &[u8]), Unread>
-    ensures { Gives (λ x. (x.0.items, x.1.now)) result (wide_at 32 row_at count bytes.now) }
+    ensures { ReadsAs (λ x. (x.0.items, x.1.now)) result (wide_at 32 row_at count bytes.now) }
 {
     let count = count as usize;
     if bytes.len() < 32 * count {
@@ -113,7 +114,7 @@ fn some_rows(alloc: Global, count: u32, bytes: &[u8]) -> Result<(Vec<Row>, &[u8]
 }
 
 fn many_rows(alloc: Global, count: usize, bytes: &[u8]) -> Result<(Vec<Row>, &[u8]), Unread>
-    ensures { Gives (λ x. (x.0.items, x.1.now)) result (many_at row_at count bytes.now) }
+    ensures { ReadsAs (λ x. (x.0.items, x.1.now)) result (many_at row_at count bytes.now) }
 {
     let mut rows = Vec::with_capacity(alloc, count)?;
     let mut rest = bytes;
@@ -126,7 +127,7 @@ fn many_rows(alloc: Global, count: usize, bytes: &[u8]) -> Result<(Vec<Row>, &[u
 }
 
 fn row_at(bytes: &[u8]) -> Result<(Row, &[u8]), Unread>
-    ensures { Gives (λ x. (x.0, x.1.now)) result (row_at bytes.now) }
+    ensures { ReadsAs (λ x. (x.0, x.1.now)) result (row_at bytes.now) }
 {
     let (fp, rest) = fp_at(bytes)?;
     let (id, rest) = u64_at(rest)?;

@@ -11,35 +11,13 @@ use Rattle.vault_types.specs.declared.Answer.{Answer}
 use Rattle.vault_types.specs.Texts.{answer_text, fault_line}
 use Rattle.vault_traits.specs.Counts.{Rose}
 use Rattle.vault_traits.specs.Told.{SinkTold, Takes}
+use Rattle.vault_traits.specs.CutOff.{IsCutOff}
+use Rattle.vault_traits.proofs.Written.{takes_then}
 use Rattle.store_model.specs.World.{IsPrinted, IsTold, TakesFront, report_text}
 
-pub takes_nothing : (told : Option (List ℕ)) → Takes told told []
-takes_nothing None = refl
-takes_nothing (Some x) = ap Some (sym (append-nil x))
-
-pub takes_then : (before mid now : Option (List ℕ)) (x y : List ℕ) → Takes before mid x → Takes mid now y → Takes before now (x ++ y)
-takes_then None mid now x y p q = q ∙ ap (option_map (λ z. z ++ y)) p
-takes_then (Some w) mid now x y p q = q ∙ ap (option_map (λ z. z ++ y)) p ∙ ap Some (append_assoc w x y)
-
--- what is left of the text, as the slice from there
-left_of : (text : List ℕ) (done : ℕ) → take (length text - done) (drop done text) ≡ drop done text
-left_of text done = let left : length (drop done text) ≡ length text - done = length-drop done text in take_all (length text - done) (drop done text) (omega arith)
-
--- more of the text behind what was written
-pub takes_more : (before mid now : Option (List ℕ)) (text : List ℕ) (done n : ℕ) → Takes before mid (take done text) → Takes mid now (take n (take (length text - done) (drop done text))) → Takes before now (take (done + n) text)
-takes_more before mid now text done n p q =
-    let r : Takes mid now (take n (drop done text)) = subst (λ (piece : List ℕ). Takes mid now (take n piece)) (left_of text done) q in
-    subst (λ (x : List ℕ). Takes before now x) (sym (take-add done n text)) (takes_then before mid now (take done text) (take n (drop done text)) p r)
-
-pub within_more : (text : List ℕ) (done n : ℕ) → done ≤ length text → n ≤ length (take (length text - done) (drop done text)) → done + n ≤ length text
-within_more text done n h few =
-    let left : length (drop done text) ≡ length text - done = length-drop done text in
-    let most : n ≤ length (drop done text) = subst (λ (piece : List ℕ). n ≤ length piece) (left_of text done) few in
-    omega arith
-
-pub cut_off : (text : List ℕ) (done : ℕ) (before mid now : SinkTold) → Takes before.taken mid.taken (take done text) → before.faults ≤ mid.faults → now.taken ≡ mid.taken → Rose mid.faults now.faults
-    → Rose before.faults now.faults × TakesFront before now text
-cut_off text done before mid now taken later same rose = (omega arith, (take done text, (drop done text, take-append-drop done text), same ∙ taken))
+-- a text that was cut off
+pub front_of : (text : List ℕ) (before now : SinkTold) → IsCutOff text before now → Rose before.faults now.faults × TakesFront before now text
+front_of text before now cut = (cut.failed, (cut.front, (cut.rest, cut.parts), cut.taken))
 
 pub not_printed : (text : List ℕ) (before now : SinkTold) (n : ℕ) → n ≡ now.faults → Rose before.faults now.faults × TakesFront before now text → IsPrinted text before now (Some (fault.WriteFault n))
 not_printed text before now n is cut = (n, refl, (subst (λ (m : ℕ). Rose before.faults m) (sym is) cut.0, omega (arith, is)), cut.1)

@@ -12,17 +12,11 @@ use vault_types::{Answer, Fault};
 /// Writes the whole text, unless the sink fails: then it has taken a front of it.
 pub fn write_all<O: Sink>(text: &[u8], out: &mut O) -> Result<(), Failed>
     ensures ok { OnOk result (Takes (O.told out.old).taken (O.told out.new).taken text.now) }
-    ensures err { OnErr result (Rose (O.told out.old).faults (O.told out.new).faults × TakesFront (O.told out.old) (O.told out.new) text.now) }
+    ensures err { OnErr result (Rose (O.told out.old).faults (O.told out.new).faults
+        × TakesFront (O.told out.old) (O.told out.new) text.now) }
     ensures later { (O.told out.old).faults ≤ (O.told out.new).faults }
 {
-    let mut done = 0;
-    while done < text.len() {
-        match out.write(&text[done..]) {
-            Ok(n) => done += n,
-            Err(Failed) => return Err(Failed),
-        }
-    }
-    Ok(())
+    vault_traits::write_all(text, out)
 }
 
 // Prints the line of an answer.

@@ -19,15 +19,16 @@ use Rattle.vault_types.specs.declared.Why.TheVariants as why
 use Rattle.vault_types.specs.Names.{fp}
 use Rattle.vault_traits.specs.Counts.{Rose}
 use Rattle.vault_traits.specs.Told.{SinkTold, Takes}
+use Rattle.vault_traits.specs.CutOff.{IsCutOff}
 use Rattle.fingerprint_stage.specs.declared.running_sum.RunningSum.{RunningSum}
 use Rattle.restore_assembler.specs.declared.payload.Payload.{Payload}
 use Rattle.restore_assembler.specs.declared.progress.Progress.{Progress}
 use Rattle.restore_assembler.specs.Payloads.{AreKnown, AreCovering, ids_of, first_id}
-use Rattle.restore_assembler.specs.Writing.{IsSumOf, IsCutOff}
+use Rattle.restore_assembler.specs.Writing.{IsSumOf}
 use Rattle.restore_assembler.specs.Copying.{wanted, next_load, HasCopied, IsTakenAt, version_bytes, done_bytes}
-use Rattle.restore_assembler.specs.Progress.{left_of, left_bytes, starts_with_load, IsGoing, IsReady, IsCopied, Advances, seen_of}
+use Rattle.restore_assembler.specs.Progress.{left_spots, left_bytes, starts_with_load, IsProgress, LoadsNext, HasAdvanced, Advances, seen_of}
 use Rattle.restore_assembler.proofs.Runs.{run_parts, requests_run}
-use Rattle.restore_assembler.proofs.Written.{takes_then}
+use Rattle.vault_traits.proofs.Written.{takes_then}
 
 -- the payloads that are present once the wanted one is
 pub known_loaded : (f : ℕ → List ℕ) (p q : Progress) (id : ℕ) (payload : Vec ℕ Global) → q.present.items ≡ record { id = id; bytes = payload } ∷ p.present.items
@@ -46,7 +47,7 @@ left_loaded f p q stays = ap (left_bytes f) stays
 pub has_copied_more : (f : ℕ → List ℕ) (before mid now : SinkTold) (p q r : Progress) → HasCopied f before mid (seen_of p) → q ≡ record p { present = q.present; step = p.step + 1 }
     → AreKnown f q.present.items → Advances q r mid now → HasCopied f before now (seen_of r)
 has_copied_more f before mid now p q r copied stays known advances =
-    let step : IsCopied f q r mid now = advances.copied f known in
+    let step : HasAdvanced f q r mid now = advances.copied f known in
     let spots : r.spots.items ≡ p.spots.items = advances.spots ∙ ap (λ (s : Progress). s.spots.items) stays in
     let so_far : List ℕ = done_bytes f (seen_of p) in
     let whole : (so_far ++ step.bytes) ++ left_bytes f r ≡ done_bytes f (seen_of r) ++ left_bytes f r =
@@ -126,7 +127,7 @@ evict≢serve : (c : ℕ) → ◌≡◌ {A = Step} (Evict c) Serve → ⊥
 evict≢serve c e = cc
 
 -- where something is left to write the next step is a load, and its payload is wanted
-pub none_left : (p : Progress) → IsReady p → wanted (seen_of p) ≡ None → length p.spots.items ≤ p.done
+pub none_left : (p : Progress) → LoadsNext p → wanted (seen_of p) ≡ None → length p.spots.items ≤ p.done
 none_left p ready wants = go (cases_lt p.done (length p.spots.items))
   where
     first : (steps : List Step) → IsTrue (starts_with_load steps) → next_load steps ≡ None → ⊥
@@ -140,7 +141,7 @@ none_left p ready wants = go (cases_lt p.done (length p.spots.items))
         (subst (λ (b : Bool). cond b (next_load (drop p.step p.steps.items)) None ≡ None) (lt-ltb p.done (length p.spots.items) l) wants))
     go (inr l) = l
 
-pub none_late : (p : Progress) (o : Option ℕ) → IsReady p → o ≡ wanted (seen_of p) → IsNone o → length p.spots.items ≤ p.done
+pub none_late : (p : Progress) (o : Option ℕ) → LoadsNext p → o ≡ wanted (seen_of p) → IsNone o → length p.spots.items ≤ p.done
 none_late p None ready is none = none_left p ready (sym is)
 none_late p (Some id) ready is none = absurd (true≢false none)
 
@@ -151,10 +152,10 @@ no_serve slots present (Load c ∷ steps) e = ((λ h. load≢serve c h), no_serv
 no_serve slots present (Evict c ∷ steps) e = ((λ h. evict≢serve c h), no_serve slots (filter (λ d. not (c == d)) present) steps (and_parts (has c present) _ e).1)
 no_serve slots present (Serve ∷ steps) e = absurd (false≢true e)
 
-pub all_served : (p : Progress) → IsGoing p → length p.spots.items ≤ p.done → All (λ s. s ≢ Serve) (drop p.step p.steps.items)
+pub all_served : (p : Progress) → IsProgress p → length p.spots.items ≤ p.done → All (λ s. s ≢ Serve) (drop p.step p.steps.items)
 all_served p going l =
     let steps : List Step = drop p.step p.steps.items in
-    let none : left_of p ≡ [] = drop_all p.done p.spots.items l in
+    let none : left_spots p ≡ [] = drop_all p.done p.spots.items l in
     All-from_recursion (λ s. s ≢ Serve) steps (no_serve p.slots (ids_of p.present.items) steps
     (subst (λ (ss : List Spot). IsTrue (serves p.slots (ids_of p.present.items) steps (requests (map (λ s. s.id) ss)))) none going.serves))
 
@@ -181,7 +182,7 @@ new_ready slots steps plan spots is e l = subst (λ (ss : List Step). IsTrue (st
 -- nothing is present at first
 pub new_going : (spots : Vec Spot Global) (steps : Vec Step Global) (slots : ℕ) (present : Vec Payload Global) (whole : Option Whole) (sum : Option RunningSum) (plan : List Step)
     → IsTrue (serves slots [] plan (requests (map (λ s. s.id) spots.items))) → steps.items ≡ plan → present.items ≡ [] → slots ≤ vec_capacity present
-    → IsGoing (record { spots = spots; steps = steps; slots = slots; present = present; whole = whole; sum = sum; done = 0; step = 0 })
+    → IsProgress (record { spots = spots; steps = steps; slots = slots; present = present; whole = whole; sum = sum; done = 0; step = 0 })
 new_going spots steps slots present whole sum plan e is none room = record {
   within = omega arith;
   few = omega (arith, ap length none);

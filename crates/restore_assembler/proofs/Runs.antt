@@ -10,28 +10,28 @@ use Rattle.vault_types.specs.Lists.{has}
 use Rattle.vault_types.specs.Plans.{requests}
 use Rattle.vault_types.specs.Bytes.{spot_bytes}
 use Rattle.restore_assembler.specs.declared.payload.Payload.{Payload}
-use Rattle.restore_assembler.specs.Payloads.{ids_of, bytes_under, Covers, AreCovering, AreKnown, run_of, first_id}
+use Rattle.restore_assembler.specs.Payloads.{ids_of, bytes_under, Covers, AreCovering, AreKnown, run_length, first_id}
 
 -- a spot that goes on with a run
-run_cons : (id : ℕ) (spot : Spot) (spots : List Spot) → spot.id ≡ id → run_of id (spot ∷ spots) ≡ suc (run_of id spots)
-run_cons id spot spots e = ap (λ b. cond b (suc (run_of id spots)) 0) (eq-eqb spot.id id e)
+run_cons : (id : ℕ) (spot : Spot) (spots : List Spot) → spot.id ≡ id → run_length id (spot ∷ spots) ≡ suc (run_length id spots)
+run_cons id spot spots e = ap (λ b. cond b (suc (run_length id spots)) 0) (eq-eqb spot.id id e)
 
 -- what is left, as the slice from there
 pub left_is : (spots : List Spot) (done : ℕ) → take (length spots - done) (drop done spots) ≡ drop done spots
 left_is spots done = let left : length (drop done spots) ≡ length spots - done = length-drop done spots in take_all (length spots - done) (drop done spots) (omega arith)
 
 -- the requests of what is left: the first container, and then those behind its run
-dedup_run : (q : ℕ) (spots : List Spot) → dedup_from nat_eq q (map (λ s. s.id) spots) ≡ q ∷ requests (map (λ s. s.id) (drop (run_of q spots) spots))
+dedup_run : (q : ℕ) (spots : List Spot) → dedup_from nat_eq q (map (λ s. s.id) spots) ≡ q ∷ requests (map (λ s. s.id) (drop (run_length q spots) spots))
 dedup_run q [] = refl
 dedup_run q (spot ∷ spots) = go (eqb spot.id q) (dedup_run q spots)
   where
-    go : (b : Bool) → dedup_from nat_eq q (map (λ s. s.id) spots) ≡ q ∷ requests (map (λ s. s.id) (drop (run_of q spots) spots))
+    go : (b : Bool) → dedup_from nat_eq q (map (λ s. s.id) spots) ≡ q ∷ requests (map (λ s. s.id) (drop (run_length q spots) spots))
         → cond b (dedup_from nat_eq q (map (λ s. s.id) spots)) (q ∷ dedup_from nat_eq spot.id (map (λ s. s.id) spots))
-        ≡ q ∷ requests (map (λ s. s.id) (drop (cond b (suc (run_of q spots)) 0) (spot ∷ spots)))
+        ≡ q ∷ requests (map (λ s. s.id) (drop (cond b (suc (run_length q spots)) 0) (spot ∷ spots)))
     go true ih = ih
     go false ih = refl
 
-pub requests_run : (spots : List Spot) → 0 < length spots → requests (map (λ s. s.id) spots) ≡ first_id spots ∷ requests (map (λ s. s.id) (drop (run_of (first_id spots) spots) spots))
+pub requests_run : (spots : List Spot) → 0 < length spots → requests (map (λ s. s.id) spots) ≡ first_id spots ∷ requests (map (λ s. s.id) (drop (run_length (first_id spots) spots) spots))
 requests_run [] l = absurd (omega arith)
 requests_run (spot ∷ spots) l =
     dedup_run spot.id spots ∙ ap (λ n. spot.id ∷ requests (map (λ s. s.id) (drop n (spot ∷ spots)))) (sym (run_cons spot.id spot spots refl))
@@ -60,28 +60,28 @@ covers_drop id bytes (suc n) [] h = h
 covers_drop id bytes (suc n) (spot ∷ spots) h = covers_drop id bytes n spots h.1
 
 -- each spot of a run ends within the bytes
-run_fits : (id : ℕ) (bytes : List ℕ) (spots : List Spot) → Covers id bytes spots → AllByRecursion (λ s. s.at + s.len ≤ length bytes) (take (run_of id spots) spots)
+run_fits : (id : ℕ) (bytes : List ℕ) (spots : List Spot) → Covers id bytes spots → AllByRecursion (λ s. s.at + s.len ≤ length bytes) (take (run_length id spots) spots)
 run_fits id bytes [] h = tt
 run_fits id bytes (spot ∷ spots) h = go (eqb spot.id id) refl (run_fits id bytes spots h.1)
   where
-    go : (b : Bool) → eqb spot.id id ≡ b → AllByRecursion (λ s. s.at + s.len ≤ length bytes) (take (run_of id spots) spots) → AllByRecursion (λ s. s.at + s.len ≤ length bytes) (take (cond b (suc (run_of id spots)) 0) (spot ∷ spots))
+    go : (b : Bool) → eqb spot.id id ≡ b → AllByRecursion (λ s. s.at + s.len ≤ length bytes) (take (run_length id spots) spots) → AllByRecursion (λ s. s.at + s.len ≤ length bytes) (take (cond b (suc (run_length id spots)) 0) (spot ∷ spots))
     go true e ih = (h.0 (eqb-true spot.id id e), ih)
     go false e ih = tt
 
-pub run_within : (id : ℕ) (bytes : List ℕ) (spots : List Spot) → Covers id bytes spots → All (λ s. s.at + s.len ≤ length bytes) (take (run_of id spots) spots)
-run_within id bytes spots h = All-from_recursion (λ s. s.at + s.len ≤ length bytes) (take (run_of id spots) spots) (run_fits id bytes spots h)
+pub run_within : (id : ℕ) (bytes : List ℕ) (spots : List Spot) → Covers id bytes spots → All (λ s. s.at + s.len ≤ length bytes) (take (run_length id spots) spots)
+run_within id bytes spots h = All-from_recursion (λ s. s.at + s.len ≤ length bytes) (take (run_length id spots) spots) (run_fits id bytes spots h)
 
 -- the bytes of a run, where the payload is known
 pub run_bytes : (payload : ℕ → List ℕ) (id : ℕ) (bytes : List ℕ) (spots : List Spot) → bytes ≡ payload id
-    → flat_map (spot_bytes (λ _. bytes)) (take (run_of id spots) spots) ≡ flat_map (spot_bytes payload) (take (run_of id spots) spots)
+    → flat_map (spot_bytes (λ _. bytes)) (take (run_length id spots) spots) ≡ flat_map (spot_bytes payload) (take (run_length id spots) spots)
 run_bytes payload id bytes [] known = refl
 run_bytes payload id bytes (spot ∷ spots) known = go (eqb spot.id id) refl (run_bytes payload id bytes spots known)
   where
-    go : (b : Bool) → eqb spot.id id ≡ b → flat_map (spot_bytes (λ _. bytes)) (take (run_of id spots) spots) ≡ flat_map (spot_bytes payload) (take (run_of id spots) spots)
-        → flat_map (spot_bytes (λ _. bytes)) (take (cond b (suc (run_of id spots)) 0) (spot ∷ spots)) ≡ flat_map (spot_bytes payload) (take (cond b (suc (run_of id spots)) 0) (spot ∷ spots))
+    go : (b : Bool) → eqb spot.id id ≡ b → flat_map (spot_bytes (λ _. bytes)) (take (run_length id spots) spots) ≡ flat_map (spot_bytes payload) (take (run_length id spots) spots)
+        → flat_map (spot_bytes (λ _. bytes)) (take (cond b (suc (run_length id spots)) 0) (spot ∷ spots)) ≡ flat_map (spot_bytes payload) (take (cond b (suc (run_length id spots)) 0) (spot ∷ spots))
     go true e ih =
         let same : bytes ≡ payload spot.id = known ∙ ap payload (sym (eqb-true spot.id id e)) in
-        ap (λ bs. take spot.len (drop spot.at bs) ++ flat_map (spot_bytes (λ _. bytes)) (take (run_of id spots) spots)) same
+        ap (λ bs. take spot.len (drop spot.at bs) ++ flat_map (spot_bytes (λ _. bytes)) (take (run_length id spots) spots)) same
         ∙ ap (λ bs. spot_bytes payload spot ++ bs) ih
     go false e ih = refl
 
@@ -96,9 +96,9 @@ first_of (spot ∷ spots) = refl
 front_is : (spots spots' : List Spot) (done : ℕ) → spots' ≡ spots → front spots' done ≡ drop done spots
 front_is spots spots' done e = ap (λ ss. front ss done) e ∙ left_is spots done
 
-pub run_found : (spots spots' : List Spot) (done run : ℕ) → spots' ≡ spots → run ≡ run_of (get_or (front spots' done) 0 (record { id = 0; at = 0; len = 0 })).id (front spots' done) → run ≡ run_of (first_id (drop done spots)) (drop done spots)
+pub run_found : (spots spots' : List Spot) (done run : ℕ) → spots' ≡ spots → run ≡ run_length (get_or (front spots' done) 0 (record { id = 0; at = 0; len = 0 })).id (front spots' done) → run ≡ run_length (first_id (drop done spots)) (drop done spots)
 run_found spots spots' done run e h =
-    h ∙ ap (λ q. run_of q (front spots' done)) (first_of (front spots' done)) ∙ ap (λ ss. run_of (first_id ss) ss) (front_is spots spots' done e)
+    h ∙ ap (λ q. run_length q (front spots' done)) (first_of (front spots' done)) ∙ ap (λ ss. run_length (first_id ss) ss) (front_is spots spots' done e)
 
 pub bytes_found : (spots spots' : List Spot) (done : ℕ) (present present' : List Payload) (bytes : List ℕ) → spots' ≡ spots → present' ≡ present → bytes ≡ bytes_under (get_or (front spots' done) 0 (record { id = 0; at = 0; len = 0 })).id present' → bytes ≡ bytes_under (first_id (drop done spots)) present
 bytes_found spots spots' done present present' bytes e f h =
@@ -106,7 +106,7 @@ bytes_found spots spots' done present present' bytes e f h =
 
 -- the next run ends within its payload
 pub next_within : (spots spots' : List Spot) (done run : ℕ) (present : List Payload) (bytes : List ℕ) → spots' ≡ spots
-    → run ≡ run_of (first_id (drop done spots)) (drop done spots) → bytes ≡ bytes_under (first_id (drop done spots)) present
+    → run ≡ run_length (first_id (drop done spots)) (drop done spots) → bytes ≡ bytes_under (first_id (drop done spots)) present
     → IsTrue (has (first_id (drop done spots)) (ids_of present)) → AreCovering spots present
     → All (λ s. s.at + s.len ≤ length bytes) (take run (front spots' done))
 next_within spots spots' done run present bytes e r b among covering =
@@ -118,9 +118,9 @@ next_within spots spots' done run present bytes e r b among covering =
 
 -- its bytes, where the payloads are known
 pub next_bytes : (payload : ℕ → List ℕ) (spots spots' : List Spot) (done run : ℕ) (present : List Payload) (bytes : List ℕ) → spots' ≡ spots
-    → run ≡ run_of (first_id (drop done spots)) (drop done spots) → bytes ≡ bytes_under (first_id (drop done spots)) present
+    → run ≡ run_length (first_id (drop done spots)) (drop done spots) → bytes ≡ bytes_under (first_id (drop done spots)) present
     → IsTrue (has (first_id (drop done spots)) (ids_of present)) → AreKnown payload present
-    → flat_map (spot_bytes (λ _. bytes)) (take run (front spots' done)) ≡ flat_map (spot_bytes payload) (take (run_of (first_id (drop done spots)) (drop done spots)) (drop done spots))
+    → flat_map (spot_bytes (λ _. bytes)) (take run (front spots' done)) ≡ flat_map (spot_bytes payload) (take (run_length (first_id (drop done spots)) (drop done spots)) (drop done spots))
 next_bytes payload spots spots' done run present bytes e r b among known =
     let left : List Spot = drop done spots in
     let q : ℕ = first_id left in

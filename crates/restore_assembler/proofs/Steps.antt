@@ -15,9 +15,10 @@ use Rattle.vault_traits.specs.Told.{SinkTold}
 use Rattle.belady_cache.proofs.Steps.{serves_evict, serves_next, loads_cons}
 use Rattle.restore_assembler.specs.declared.payload.Payload.{Payload}
 use Rattle.restore_assembler.specs.declared.progress.Progress.{Progress}
-use Rattle.restore_assembler.specs.Payloads.{ids_of, without, AreCovering, AreKnown, Covers, run_of, first_id}
-use Rattle.restore_assembler.specs.Writing.{IsWritten, IsCutOff}
-use Rattle.restore_assembler.specs.Progress.{left_of, left_bytes, IsGoing, IsCopied, Advances, starts_with_load}
+use Rattle.restore_assembler.specs.Payloads.{ids_of, without_payload, AreCovering, AreKnown, Covers, run_length, first_id}
+use Rattle.vault_traits.specs.CutOff.{IsCutOff}
+use Rattle.restore_assembler.specs.Writing.{IsWrittenWithSum}
+use Rattle.restore_assembler.specs.Progress.{left_spots, left_bytes, IsProgress, HasAdvanced, Advances, starts_with_load}
 use Rattle.restore_assembler.proofs.Runs.{requests_run, run_parts}
 use Rattle.restore_assembler.proofs.Written.{written_nothing, written_then, cut_off_then}
 
@@ -32,31 +33,31 @@ serves_some slots present (s ∷ steps) q reqs e = omega arith
 some_left : (spots : List Spot) (done : ℕ) → done < length spots → 0 < length (drop done spots)
 some_left spots done l = omega (arith, length-drop done spots)
 
-next_request : (p : Progress) → p.done < length p.spots.items → requests (map (λ s. s.id) (left_of p)) ≡ first_id (left_of p) ∷ requests (map (λ s. s.id) (drop (run_of (first_id (left_of p)) (left_of p)) (left_of p)))
-next_request p l = requests_run (left_of p) (some_left p.spots.items p.done l)
+next_request : (p : Progress) → p.done < length p.spots.items → requests (map (λ s. s.id) (left_spots p)) ≡ first_id (left_spots p) ∷ requests (map (λ s. s.id) (drop (run_length (first_id (left_spots p)) (left_spots p)) (left_spots p)))
+next_request p l = requests_run (left_spots p) (some_left p.spots.items p.done l)
 
 -- where something is left to write there is a step
-pub some_step : (p : Progress) → IsGoing p → p.done < length p.spots.items → p.step < length p.steps.items
+pub some_step : (p : Progress) → IsProgress p → p.done < length p.spots.items → p.step < length p.steps.items
 some_step p going l =
-    let some : 0 < length (drop p.step p.steps.items) = serves_some p.slots (ids_of p.present.items) (drop p.step p.steps.items) (first_id (left_of p)) _
+    let some : 0 < length (drop p.step p.steps.items) = serves_some p.slots (ids_of p.present.items) (drop p.step p.steps.items) (first_id (left_spots p)) _
     (subst (λ (reqs : List ℕ). IsTrue (serves p.slots (ids_of p.present.items) (drop p.step p.steps.items) reqs)) (next_request p l) going.serves) in
     omega (arith, length-drop p.step p.steps.items)
 
 -- what is served is present, and the steps behind it serve what is then left
-pub served : (p : Progress) (rest : List Step) → IsGoing p → p.done < length p.spots.items → drop p.step p.steps.items ≡ Serve ∷ rest
-    → IsTrue (has (first_id (left_of p)) (ids_of p.present.items)) × IsTrue (serves p.slots (ids_of p.present.items) rest (requests (map (λ s. s.id) (drop (run_of (first_id (left_of p)) (left_of p)) (left_of p)))))
+pub served : (p : Progress) (rest : List Step) → IsProgress p → p.done < length p.spots.items → drop p.step p.steps.items ≡ Serve ∷ rest
+    → IsTrue (has (first_id (left_spots p)) (ids_of p.present.items)) × IsTrue (serves p.slots (ids_of p.present.items) rest (requests (map (λ s. s.id) (drop (run_length (first_id (left_spots p)) (left_spots p)) (left_spots p)))))
 served p rest going l is =
-    serves_next p.slots (first_id (left_of p)) (ids_of p.present.items) rest (requests (map (λ s. s.id) (drop (run_of (first_id (left_of p)) (left_of p)) (left_of p))))
+    serves_next p.slots (first_id (left_spots p)) (ids_of p.present.items) rest (requests (map (λ s. s.id) (drop (run_length (first_id (left_spots p)) (left_spots p)) (left_spots p))))
     (subst (λ (reqs : List ℕ). IsTrue (serves p.slots (ids_of p.present.items) (Serve ∷ rest) reqs)) (next_request p l)
-    (subst (λ (steps : List Step). IsTrue (serves p.slots (ids_of p.present.items) steps (requests (map (λ s. s.id) (left_of p))))) is going.serves))
+    (subst (λ (steps : List Step). IsTrue (serves p.slots (ids_of p.present.items) steps (requests (map (λ s. s.id) (left_spots p))))) is going.serves))
 
 -- the ids that are left after an eviction
-ids_without : (id : ℕ) (present : List Payload) → ids_of (without id present) ≡ filter (λ d. not (id == d)) (ids_of present)
+ids_without : (id : ℕ) (present : List Payload) → ids_of (without_payload id present) ≡ filter (λ d. not (id == d)) (ids_of present)
 ids_without id [] = refl
 ids_without id (h ∷ present) = go (eqb id h.id) (ids_without id present)
   where
-    go : (b : Bool) → ids_of (without id present) ≡ filter (λ d. not (id == d)) (ids_of present)
-        → ids_of (cond (not b) (h ∷ without id present) (without id present)) ≡ cond (not b) (h.id ∷ filter (λ d. not (id == d)) (ids_of present)) (filter (λ d. not (id == d)) (ids_of present))
+    go : (b : Bool) → ids_of (without_payload id present) ≡ filter (λ d. not (id == d)) (ids_of present)
+        → ids_of (cond (not b) (h ∷ without_payload id present) (without_payload id present)) ≡ cond (not b) (h.id ∷ filter (λ d. not (id == d)) (ids_of present)) (filter (λ d. not (id == d)) (ids_of present))
     go true ih = ih
     go false ih = ap (λ ids. h.id ∷ ids) ih
 
@@ -79,22 +80,22 @@ other_step s steps rest none_here is =
     omega arith
 
 -- an eviction
-pub going_evicted : (p : Progress) (present : Vec Payload Global) (id : ℕ) → IsGoing p → drop p.step p.steps.items ≡ Evict id ∷ drop (p.step + 1) p.steps.items
-    → present.items ≡ without id p.present.items → vec_capacity present ≡ vec_capacity p.present → IsGoing (record p { present = present; step = p.step + 1 })
+pub going_evicted : (p : Progress) (present : Vec Payload Global) (id : ℕ) → IsProgress p → drop p.step p.steps.items ≡ Evict id ∷ drop (p.step + 1) p.steps.items
+    → present.items ≡ without_payload id p.present.items → vec_capacity present ≡ vec_capacity p.present → IsProgress (record p { present = present; step = p.step + 1 })
 going_evicted p present id going is items capacity = record {
   within = going.within;
   few = omega (arith, ap length items, length-filter (λ (h : Payload). not (id == h.id)) p.present.items, count_by-le-length (λ (h : Payload). not (id == h.id)) p.present.items, going.few);
   room = omega (arith, going.room, capacity);
   covering = subst (λ (hs : List Payload). AreCovering p.spots.items hs) (sym items) (all_filter (λ h. Covers h.id h.bytes.items p.spots.items) (λ h. not (id == h.id)) p.present.items going.covering);
   serves =
-      let reqs : List ℕ = requests (map (λ s. s.id) (left_of p)) in
+      let reqs : List ℕ = requests (map (λ s. s.id) (left_spots p)) in
       let rest : List Step = drop (p.step + 1) p.steps.items in
       let left : IsTrue (serves p.slots (filter (λ d. not (id == d)) (ids_of p.present.items)) rest reqs) =
       (serves_evict p.slots id (ids_of p.present.items) rest reqs (subst (λ (steps : List Step). IsTrue (serves p.slots (ids_of p.present.items) steps reqs)) is going.serves)).1 in
       subst (λ (ids : List ℕ). IsTrue (serves p.slots ids rest reqs)) (sym (ap ids_of items ∙ ids_without id p.present.items)) left;
 }
 
-pub advances_evicted : (p : Progress) (present : Vec Payload Global) (id : ℕ) (told : SinkTold) → drop p.step p.steps.items ≡ Evict id ∷ drop (p.step + 1) p.steps.items → present.items ≡ without id p.present.items → Advances p (record p { present = present; step = p.step + 1 }) told told
+pub advances_evicted : (p : Progress) (present : Vec Payload Global) (id : ℕ) (told : SinkTold) → drop p.step p.steps.items ≡ Evict id ∷ drop (p.step + 1) p.steps.items → present.items ≡ without_payload id p.present.items → Advances p (record p { present = present; step = p.step + 1 }) told told
 advances_evicted p present id told is items = record {
   spots = refl;
   steps = refl;
@@ -108,25 +109,25 @@ advances_evicted p present id told is items = record {
 }
 
 -- a request that is served
-pub going_served : (p q : Progress) → IsGoing p → p.done < length p.spots.items → drop p.step p.steps.items ≡ Serve ∷ drop (p.step + 1) p.steps.items
-    → q ≡ record p { done = q.done; sum = q.sum } → q.done ≡ p.done + run_of (first_id (left_of p)) (left_of p) → q.done ≤ length p.spots.items → IsGoing (record q { step = q.step + 1 })
+pub going_served : (p q : Progress) → IsProgress p → p.done < length p.spots.items → drop p.step p.steps.items ≡ Serve ∷ drop (p.step + 1) p.steps.items
+    → q ≡ record p { done = q.done; sum = q.sum } → q.done ≡ p.done + run_length (first_id (left_spots p)) (left_spots p) → q.done ≤ length p.spots.items → IsProgress (record q { step = q.step + 1 })
 going_served p q going l is stays done within =
-    let m : Progress = record p { done = p.done + run_of (first_id (left_of p)) (left_of p); sum = q.sum } in
+    let m : Progress = record p { done = p.done + run_length (first_id (left_spots p)) (left_spots p); sum = q.sum } in
     let same : q ≡ m = stays ∙ ap (λ (n : ℕ). record p { done = n; sum = q.sum }) done in
-    subst (λ (r : Progress). IsGoing (record r { step = r.step + 1 })) (sym same)
+    subst (λ (r : Progress). IsProgress (record r { step = r.step + 1 })) (sym same)
     (record {
       within = subst (λ (n : ℕ). n ≤ length p.spots.items) done within;
       few = going.few;
       room = going.room;
       covering = going.covering;
       serves = subst (λ (ss : List Spot). IsTrue (serves p.slots (ids_of p.present.items) (drop (p.step + 1) p.steps.items) (requests (map (λ s. s.id) ss))))
-          (drop-drop (run_of (first_id (left_of p)) (left_of p)) p.done p.spots.items)
+          (drop-drop (run_length (first_id (left_spots p)) (left_spots p)) p.done p.spots.items)
           (served p (drop (p.step + 1) p.steps.items) going l is).1;
     })
 
-pub advances_served : (p q : Progress) (before now : SinkTold) → drop p.step p.steps.items ≡ Serve ∷ drop (p.step + 1) p.steps.items → q ≡ record p { done = q.done; sum = q.sum } → q.done ≡ p.done + run_of (first_id (left_of p)) (left_of p)
+pub advances_served : (p q : Progress) (before now : SinkTold) → drop p.step p.steps.items ≡ Serve ∷ drop (p.step + 1) p.steps.items → q ≡ record p { done = q.done; sum = q.sum } → q.done ≡ p.done + run_length (first_id (left_spots p)) (left_spots p)
     → is_some q.sum ≡ is_some p.sum → before.faults ≤ now.faults
-    → ((payload : ℕ → List ℕ) → AreKnown payload p.present.items → IsWritten (flat_map (spot_bytes payload) (take (run_of (first_id (left_of p)) (left_of p)) (left_of p))) before now p.sum q.sum)
+    → ((payload : ℕ → List ℕ) → AreKnown payload p.present.items → IsWrittenWithSum (flat_map (spot_bytes payload) (take (run_length (first_id (left_spots p)) (left_spots p)) (left_spots p))) before now p.sum q.sum)
     → Advances p (record q { step = q.step + 1 }) before now
 advances_served p q before now is stays done kept later written = record {
   spots = ap (λ (r : Progress). r.spots.items) stays;
@@ -138,12 +139,12 @@ advances_served p q before now is stays done kept later written = record {
   later = later;
   known = λ payload known. subst (λ (r : Progress). AreKnown payload r.present.items) (sym stays) known;
   copied = λ payload known.
-      let n : ℕ = run_of (first_id (left_of p)) (left_of p) in
+      let n : ℕ = run_length (first_id (left_spots p)) (left_spots p) in
       record {
-        bytes = flat_map (spot_bytes payload) (take n (left_of p));
+        bytes = flat_map (spot_bytes payload) (take n (left_spots p));
         parts =
-            let left : left_of q ≡ drop n (left_of p) = ap (λ (r : Progress). drop r.done r.spots.items) stays ∙ ap (λ (k : ℕ). drop k p.spots.items) done ∙ sym (drop-drop n p.done p.spots.items) in
-            ap (λ ss. flat_map (spot_bytes payload) (take n (left_of p)) ++ flat_map (spot_bytes payload) ss) left ∙ run_parts payload n (left_of p);
+            let left : left_spots q ≡ drop n (left_spots p) = ap (λ (r : Progress). drop r.done r.spots.items) stays ∙ ap (λ (k : ℕ). drop k p.spots.items) done ∙ sym (drop-drop n p.done p.spots.items) in
+            ap (λ ss. flat_map (spot_bytes payload) (take n (left_spots p)) ++ flat_map (spot_bytes payload) ss) left ∙ run_parts payload n (left_spots p);
         written = written payload known;
       };
 }
@@ -160,8 +161,8 @@ advances_then p q r before mid now a b = record {
   later = omega (arith, a.later, b.later);
   known = λ payload known. b.known payload (a.known payload known);
   copied = λ payload known.
-      let x : IsCopied payload p q before mid = a.copied payload known in
-      let y : IsCopied payload q r mid now = b.copied payload (a.known payload known) in
+      let x : HasAdvanced payload p q before mid = a.copied payload known in
+      let y : HasAdvanced payload q r mid now = b.copied payload (a.known payload known) in
       record {
         bytes = x.bytes ++ y.bytes;
         parts = append_assoc x.bytes y.bytes (left_bytes payload r) ∙ ap (λ z. x.bytes ++ z) y.parts ∙ x.parts;
@@ -173,7 +174,7 @@ advances_then p q r before mid now a b = record {
 pub advances_cut_off : (p q : Progress) (payload : ℕ → List ℕ) (before mid now : SinkTold) → Advances p q before mid → AreKnown payload p.present.items
     → ((f : ℕ → List ℕ) → AreKnown f q.present.items → IsCutOff (left_bytes f q) mid now) → IsCutOff (left_bytes payload p) before now
 advances_cut_off p q payload before mid now a known cut =
-    let x : IsCopied payload p q before mid = a.copied payload known in
+    let x : HasAdvanced payload p q before mid = a.copied payload known in
     subst (λ (bytes : List ℕ). IsCutOff bytes before now) x.parts
     (cut_off_then x.bytes (left_bytes payload q) before mid now p.sum q.sum x.written (cut payload (a.known payload known)))
 
@@ -181,11 +182,11 @@ pub load_starts : (steps : List Step) (i id : ℕ) → drop i steps ≡ Load id 
 load_starts steps i id is = ap starts_with_load is
 
 -- a request that was cut off
-pub going_cut_off : (p q : Progress) → IsGoing p → q ≡ record p { done = q.done; sum = q.sum } → q.done ≡ p.done → IsGoing q
+pub going_cut_off : (p q : Progress) → IsProgress p → q ≡ record p { done = q.done; sum = q.sum } → q.done ≡ p.done → IsProgress q
 going_cut_off p q going stays done =
     let m : Progress = record p { sum = q.sum } in
     let same : q ≡ m = stays ∙ ap (λ (n : ℕ). record p { done = n; sum = q.sum }) done in
-    subst IsGoing (sym same) (record { within = going.within; few = going.few; room = going.room; covering = going.covering; serves = going.serves })
+    subst IsProgress (sym same) (record { within = going.within; few = going.few; room = going.room; covering = going.covering; serves = going.serves })
 
 -- there is still a step
 pub step_stays : (p q : Progress) → q ≡ record p { done = q.done; sum = q.sum } → p.step < length p.steps.items → q.step < length q.steps.items

@@ -7,7 +7,8 @@ use Rattle.vault_types.specs.declared.Spot.{Spot}
 use Rattle.vault_types.specs.Bytes.{spot_bytes}
 use Rattle.vault_traits.specs.Told.{SinkTold}
 use Rattle.fingerprint_stage.specs.declared.running_sum.RunningSum.{RunningSum}
-use Rattle.restore_assembler.specs.Writing.{IsWritten, IsCutOff, IsWaiting}
+use Rattle.vault_traits.specs.CutOff.{IsCutOff}
+use Rattle.restore_assembler.specs.Writing.{IsWrittenWithSum, IsWaiting}
 use Rattle.restore_assembler.proofs.Written.{written_nothing, written_then, cut_off_then, cut_off_before}
 
 abbrev pub bytes_in : List ℕ → Spot → List ℕ
@@ -65,15 +66,15 @@ waits_longer payload run i start end d before now sum sum' l at within w =
 
 -- what waited was written
 pub all_written : (payload bytes : List ℕ) (start end : ℕ) (before mid now : SinkTold) (sum sum' sum'' : Option RunningSum)
-    → IsWaiting payload bytes start end before mid sum sum' → IsWritten (take (end - start) (drop start payload)) mid now sum' sum'' → IsWritten bytes before now sum sum''
+    → IsWaiting payload bytes start end before mid sum sum' → IsWrittenWithSum (take (end - start) (drop start payload)) mid now sum' sum'' → IsWrittenWithSum bytes before now sum sum''
 all_written payload bytes start end before mid now sum sum' sum'' w more =
-    subst (λ (x : List ℕ). IsWritten x before now sum sum'') w.parts
+    subst (λ (x : List ℕ). IsWrittenWithSum x before now sum sum'') w.parts
     (written_then w.front (take (end - start) (drop start payload)) before mid now sum sum' sum'' w.written more)
 
 -- a spot that begins elsewhere, once what waited was written
 pub waits_anew : (payload : List ℕ) (run : List Spot) (i : ℕ) (d : Spot) (before now : SinkTold) (sum sum' : Option RunningSum) → i < length run
     → (get_or run i d).at + (get_or run i d).len ≤ length payload
-    → IsWritten (bytes_to payload run i) before now sum sum' → IsWaiting payload (bytes_to payload run (i + 1)) (get_or run i d).at ((get_or run i d).at + (get_or run i d).len) before now sum sum'
+    → IsWrittenWithSum (bytes_to payload run i) before now sum sum' → IsWaiting payload (bytes_to payload run (i + 1)) (get_or run i d).at ((get_or run i d).at + (get_or run i d).len) before now sum sum'
 waits_anew payload run i d before now sum sum' l within done =
     let x : Spot = get_or run i d in
     let long : x.at + x.len - x.at ≡ x.len = omega arith in

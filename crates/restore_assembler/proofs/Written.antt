@@ -9,44 +9,12 @@ use Rattle.vault_types.specs.Bytes.{spot_bytes}
 use Rattle.vault_traits.specs.Counts.{Rose}
 use Rattle.vault_traits.specs.Told.{SinkTold, Takes}
 use Rattle.fingerprint_stage.specs.declared.running_sum.RunningSum.{RunningSum}
-use Rattle.restore_assembler.specs.Writing.{IsSumOf, IsWritten, IsCutOff}
-
-pub takes_nothing : (told : Option (List ℕ)) → Takes told told []
-takes_nothing None = refl
-takes_nothing (Some x) = ap Some (sym (append-nil x))
-
-pub takes_then : (before mid now : Option (List ℕ)) (x y : List ℕ) → Takes before mid x → Takes mid now y → Takes before now (x ++ y)
-takes_then None mid now x y p q = q ∙ ap (option_map (λ z. z ++ y)) p
-takes_then (Some w) mid now x y p q = q ∙ ap (option_map (λ z. z ++ y)) p ∙ ap Some (append_assoc w x y)
-
--- what is left of the bytes, as the slice from there
-left_of : (bytes : List ℕ) (done : ℕ) → take (length bytes - done) (drop done bytes) ≡ drop done bytes
-left_of bytes done = let left : length (drop done bytes) ≡ length bytes - done = length-drop done bytes in take_all (length bytes - done) (drop done bytes) (omega arith)
-
--- more of the bytes behind what was written
-pub takes_more : (before mid now : Option (List ℕ)) (bytes : List ℕ) (done n : ℕ) → Takes before mid (take done bytes) → Takes mid now (take n (take (length bytes - done) (drop done bytes))) → Takes before now (take (done + n) bytes)
-takes_more before mid now bytes done n p q =
-    let r : Takes mid now (take n (drop done bytes)) = subst (λ (piece : List ℕ). Takes mid now (take n piece)) (left_of bytes done) q in
-    subst (λ (x : List ℕ). Takes before now x) (sym (take-add done n bytes)) (takes_then before mid now (take done bytes) (take n (drop done bytes)) p r)
-
-pub within_more : (bytes : List ℕ) (done n : ℕ) → done ≤ length bytes → n ≤ length (take (length bytes - done) (drop done bytes)) → done + n ≤ length bytes
-within_more bytes done n h few =
-    let left : length (drop done bytes) ≡ length bytes - done = length-drop done bytes in
-    let most : n ≤ length (drop done bytes) = subst (λ (piece : List ℕ). n ≤ length piece) (left_of bytes done) few in
-    omega arith
-
-pub cut_off : (bytes : List ℕ) (done : ℕ) (before mid now : SinkTold) → Takes before.taken mid.taken (take done bytes) → before.faults ≤ mid.faults → now.taken ≡ mid.taken → Rose mid.faults now.faults → done < length bytes → IsCutOff bytes before now
-cut_off bytes done before mid now taken later same rose some = record {
-  failed = omega arith;
-  front = take done bytes;
-  rest = drop done bytes;
-  short = omega (arith, length-drop done bytes);
-  parts = take-append-drop done bytes;
-  taken = same ∙ taken;
-}
+use Rattle.vault_traits.specs.CutOff.{IsCutOff}
+use Rattle.vault_traits.proofs.Written.{takes_nothing, takes_then}
+use Rattle.restore_assembler.specs.Writing.{IsSumOf, IsWrittenWithSum}
 
 -- no bytes
-pub written_nothing : (told : SinkTold) (sum : Option RunningSum) → IsWritten [] told told sum sum
+pub written_nothing : (told : SinkTold) (sum : Option RunningSum) → IsWrittenWithSum [] told told sum sum
 written_nothing told sum = record {
   taken = takes_nothing told.taken;
   summed = λ x h. subst (IsSumOf sum) (sym (append-nil x)) h;
@@ -55,7 +23,7 @@ written_nothing told sum = record {
 }
 
 -- two pieces one after another
-pub written_then : (x y : List ℕ) (before mid now : SinkTold) (sum sum' sum'' : Option RunningSum) → IsWritten x before mid sum sum' → IsWritten y mid now sum' sum'' → IsWritten (x ++ y) before now sum sum''
+pub written_then : (x y : List ℕ) (before mid now : SinkTold) (sum sum' sum'' : Option RunningSum) → IsWrittenWithSum x before mid sum sum' → IsWrittenWithSum y mid now sum' sum'' → IsWrittenWithSum (x ++ y) before now sum sum''
 written_then x y before mid now sum sum' sum'' p q = record {
   taken = takes_then before.taken mid.taken now.taken x y p.taken q.taken;
   summed = λ z h. subst (IsSumOf sum'') (append_assoc z x y) (q.summed (z ++ x) (p.summed z h));
@@ -64,7 +32,7 @@ written_then x y before mid now sum sum' sum'' p q = record {
 }
 
 -- the sink failed in the second piece
-pub cut_off_then : (x y : List ℕ) (before mid now : SinkTold) (sum sum' : Option RunningSum) → IsWritten x before mid sum sum' → IsCutOff y mid now → IsCutOff (x ++ y) before now
+pub cut_off_then : (x y : List ℕ) (before mid now : SinkTold) (sum sum' : Option RunningSum) → IsWrittenWithSum x before mid sum sum' → IsCutOff y mid now → IsCutOff (x ++ y) before now
 cut_off_then x y before mid now sum sum' p q = record {
   failed = omega (arith, p.later, q.failed);
   front = x ++ q.front;
@@ -86,7 +54,7 @@ cut_off_before x y before now q = record {
 }
 
 -- the sink failed in a spot of a run
-pub cut_off_in : (payload : List ℕ) (run : List Spot) (i : ℕ) (spot : Spot) (end : ℕ) (before mid now : SinkTold) (sum sum' : Option RunningSum) → i < length run → end ≡ (get_or run i spot).at + (get_or run i spot).len → IsWritten (flat_map (spot_bytes (λ _. payload)) (take i run)) before mid sum sum' → IsCutOff (take (end - (get_or run i spot).at) (drop (get_or run i spot).at payload)) mid now → IsCutOff (flat_map (spot_bytes (λ _. payload)) run) before now
+pub cut_off_in : (payload : List ℕ) (run : List Spot) (i : ℕ) (spot : Spot) (end : ℕ) (before mid now : SinkTold) (sum sum' : Option RunningSum) → i < length run → end ≡ (get_or run i spot).at + (get_or run i spot).len → IsWrittenWithSum (flat_map (spot_bytes (λ _. payload)) (take i run)) before mid sum sum' → IsCutOff (take (end - (get_or run i spot).at) (drop (get_or run i spot).at payload)) mid now → IsCutOff (flat_map (spot_bytes (λ _. payload)) run) before now
 cut_off_in payload run i spot end before mid now sum sum' l is done cut =
     let f : Spot → List ℕ = spot_bytes (λ _. payload) in
     let x : Spot = get_or run i spot in

@@ -17,8 +17,9 @@ use Rattle.restore_assembler.specs.declared.payload.Payload.{Payload}
 use Rattle.restore_assembler.specs.Payloads.{Covers, AreKnown}
 use Rattle.restore_assembler.specs.Writing.{IsSumOf}
 
--- the version's spots, and how many of them are written; the steps of the plan that are left; how many payloads may be
--- present, and those that are; what the sum of all bytes should be, and that of the bytes so far, where it is known
+-- the version's spots, and how many of them are written; the steps of the plan that are left; how
+-- many payloads may be present, and those that are; what the sum of all bytes should be, and that
+-- of the bytes so far, where it is known
 pub record Copying : Type 0 where
   pub spots : List Spot
   pub done : ℕ
@@ -54,24 +55,26 @@ version_bytes payload spots = flat_map (spot_bytes payload) spots
 abbrev pub done_bytes : (ℕ → List ℕ) → Copying → List ℕ
 done_bytes payload s = version_bytes payload (take s.done s.spots)
 
--- with these payloads: those that are present are among them, and the sink has taken the bytes of the spots that are
--- written, and nothing else
+-- with these payloads: those that are present are among them, and the sink has taken the bytes of
+-- the spots that are written, and nothing else
 pub record HasCopied (payload : ℕ → List ℕ) (before now : SinkTold) (s : Copying) : Type 0 where
   pub known : AreKnown payload s.present
   pub taken : Takes before.taken now.taken (done_bytes payload s)
   pub summed : IsSumOf s.sum (done_bytes payload s)
 
 -- the sink failed, or the bytes have another sum than they should
-abbrev pub IsCause : Option Whole → SinkTold → SinkTold → Fault → Type 0
-IsCause whole before now (fault.WriteFault n) = (n ≡ now.faults) × Rose before.faults now.faults
-IsCause whole before now (fault.Damaged Recipe number (why.Whole want found)) =
+abbrev pub IsOutputFault : Option Whole → SinkTold → SinkTold → Fault → Type 0
+IsOutputFault whole before now (fault.WriteFault n) = (n ≡ now.faults) × Rose before.faults now.faults
+IsOutputFault whole before now (fault.Damaged Recipe number (why.Whole want found)) =
     (whole ≡ Some (record { number = number; want = want })) × (found ≢ want)
-IsCause whole before now other = ⊥
+IsOutputFault whole before now other = ⊥
 
--- what was taken of all the bytes: a front of them where the sink failed, and else all of them, which have the sum
--- that was found
+-- what was taken of all the bytes: a front of them where the sink failed, and else all of them,
+-- which have the sum that was found
 abbrev pub IsTakenAt : List ℕ → SinkTold → SinkTold → Fault → Type 0
 IsTakenAt bytes before now (fault.WriteFault n) =
-    (front : List ℕ) × (rest : List ℕ) × (front ++ rest ≡ bytes) × (0 < length rest) × Takes before.taken now.taken front
-IsTakenAt bytes before now (fault.Damaged kind number (why.Whole want found)) = (found ≡ fp bytes) × Takes before.taken now.taken bytes
+    (front : List ℕ) × (rest : List ℕ) × (front ++ rest ≡ bytes) × (0 < length rest)
+    × Takes before.taken now.taken front
+IsTakenAt bytes before now (fault.Damaged kind number (why.Whole want found)) =
+    (found ≡ fp bytes) × Takes before.taken now.taken bytes
 IsTakenAt bytes before now other = ⊥

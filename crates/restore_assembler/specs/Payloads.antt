@@ -12,8 +12,8 @@ abbrev pub bytes_under : ℕ → List Payload → List ℕ
 bytes_under id [] = []
 bytes_under id (h ∷ present) = if id == h.id then h.bytes.items else bytes_under id present
 
-abbrev pub without : ℕ → List Payload → List Payload
-without id present = filter (λ h. not (id == h.id)) present
+abbrev pub without_payload : ℕ → List Payload → List Payload
+without_payload id present = filter (λ h. not (id == h.id)) present
 
 -- the spot ends within the bytes, if it lies in that container
 abbrev pub Fits : ℕ → List ℕ → Spot → Type 0
@@ -32,9 +32,9 @@ abbrev pub AreKnown : (ℕ → List ℕ) → List Payload → Type 0
 AreKnown payload present = AllByRecursion (λ h. h.bytes.items ≡ payload h.id) present
 
 -- how many spots at the front lie in that container
-abbrev pub run_of : ℕ → List Spot → ℕ
-run_of id [] = 0
-run_of id (spot ∷ spots) = if spot.id == id then suc (run_of id spots) else 0
+abbrev pub run_length : ℕ → List Spot → ℕ
+run_length id [] = 0
+run_length id (spot ∷ spots) = if spot.id == id then suc (run_length id spots) else 0
 
 -- the container of the first spot
 abbrev pub first_id : List Spot → ℕ

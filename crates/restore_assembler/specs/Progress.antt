@@ -9,24 +9,26 @@ use Rattle.vault_traits.specs.Told.{SinkTold}
 use Rattle.restore_assembler.specs.declared.progress.Progress.{Progress}
 use Rattle.restore_assembler.specs.Payloads.{ids_of, AreCovering, AreKnown}
 use Rattle.restore_assembler.specs.Copying.{Copying}
-use Rattle.restore_assembler.specs.Writing.{IsWritten}
+use Rattle.restore_assembler.specs.Writing.{IsWrittenWithSum}
 
 -- the spots that are not yet written
-abbrev pub left_of : Progress → List Spot
-left_of p = drop p.done p.spots.items
+abbrev pub left_spots : Progress → List Spot
+left_spots p = drop p.done p.spots.items
 
 -- the bytes of the spots that are not yet written
 abbrev pub left_bytes : (ℕ → List ℕ) → Progress → List ℕ
-left_bytes payload p = flat_map (spot_bytes payload) (left_of p)
+left_bytes payload p = flat_map (spot_bytes payload) (left_spots p)
 
--- the steps that are left serve what is not yet written, the present payloads are long enough for their spots and no
--- more than the slots, and there is room for every slot
-pub record IsGoing (p : Progress) : Type 0 where
+-- the steps that are left serve what is not yet written, the present payloads are long enough for
+-- their spots and no more than the slots, and there is room for every slot
+pub record IsProgress (p : Progress) : Type 0 where
   pub within : p.done ≤ length p.spots.items
   pub few : length p.present.items ≤ p.slots
   pub room : p.slots ≤ vec_capacity p.present
   pub covering : AreCovering p.spots.items p.present.items
-  pub serves : IsTrue (serves p.slots (ids_of p.present.items) (drop p.step p.steps.items) (requests (map (λ s. s.id) (left_of p))))
+  pub serves : IsTrue
+      (serves p.slots (ids_of p.present.items) (drop p.step p.steps.items)
+      (requests (map (λ s. s.id) (left_spots p))))
 
 -- the next step is a load
 abbrev pub starts_with_load : List Step → Bool
@@ -36,14 +38,14 @@ starts_with_load (Evict c ∷ steps) = false
 starts_with_load (Serve ∷ steps) = false
 
 -- the next step is a load, where something is left to write
-abbrev pub IsReady : Progress → Type 0
-IsReady p = p.done < length p.spots.items → IsTrue (starts_with_load (drop p.step p.steps.items))
+abbrev pub LoadsNext : Progress → Type 0
+LoadsNext p = p.done < length p.spots.items → IsTrue (starts_with_load (drop p.step p.steps.items))
 
 -- what was to be written at first is what has been written, and then what is left
-pub record IsCopied (payload : ℕ → List ℕ) (p q : Progress) (before now : SinkTold) : Type 0 where
+pub record HasAdvanced (payload : ℕ → List ℕ) (p q : Progress) (before now : SinkTold) : Type 0 where
   pub bytes : List ℕ
   pub parts : bytes ++ left_bytes payload q ≡ left_bytes payload p
-  pub written : IsWritten bytes before now p.sum q.sum
+  pub written : IsWrittenWithSum bytes before now p.sum q.sum
 
 -- from one state of a restore to a later one
 pub record Advances (p q : Progress) (before now : SinkTold) : Type 0 where
@@ -55,7 +57,7 @@ pub record Advances (p q : Progress) (before now : SinkTold) : Type 0 where
   pub kept : is_some q.sum ≡ is_some p.sum
   pub later : before.faults ≤ now.faults
   pub known : (payload : ℕ → List ℕ) → AreKnown payload p.present.items → AreKnown payload q.present.items
-  pub copied : (payload : ℕ → List ℕ) → AreKnown payload p.present.items → IsCopied payload p q before now
+  pub copied : (payload : ℕ → List ℕ) → AreKnown payload p.present.items → HasAdvanced payload p q before now
 
 -- a restore that goes on has a sum exactly where it should have one
 abbrev pub IsSumming : Progress → Type 0
@@ -63,4 +65,13 @@ IsSumming p = p.done < length p.spots.items → is_some p.sum ≡ is_some p.whol
 
 -- what is seen of it
 abbrev pub seen_of : Progress → Copying
-seen_of p = record { spots = p.spots.items; done = p.done; steps = drop p.step p.steps.items; slots = p.slots; present = p.present.items; whole = p.whole; sum = p.sum }
+seen_of p =
+    record {
+      spots = p.spots.items;
+      done = p.done;
+      steps = drop p.step p.steps.items;
+      slots = p.slots;
+      present = p.present.items;
+      whole = p.whole;
+      sum = p.sum;
+    }

@@ -7,7 +7,7 @@ ghost use Rattle.vault_types.specs.declared.Step.TheVariants.{Serve};
 ghost use Rattle.vault_types.specs.Names.{fp};
 ghost use Rattle.vault_types.specs.Plans.{requests, serves, loads as loads_of};
 ghost use Rattle.vault_traits.specs.Told.{SinkTold, Takes};
-ghost use Rattle.restore_assembler.specs.Copying.{wanted, IsWanted, IsCovered, HasCopied, IsCause, IsTakenAt, version_bytes};
+ghost use Rattle.restore_assembler.specs.Copying.{wanted, IsWanted, IsCovered, HasCopied, IsOutputFault, IsTakenAt, version_bytes};
 
 mod ends;
 mod payload;
@@ -34,14 +34,15 @@ pub struct Copier {
 
 impl Model for Copier {
     ghost use Rattle.restore_assembler.specs.Copying.{Copying};
-    ghost use Rattle.restore_assembler.specs.Progress.{seen_of, IsGoing, IsReady, IsSumming};
+    ghost use Rattle.restore_assembler.specs.Progress.{seen_of, IsProgress, LoadsNext, IsSumming};
     ghost use Rattle.restore_assembler.specs.Ends.{HasEnds};
 
     ghost Value = { Copying };
 
     ghost view = { λ s. seen_of s.progress };
 
-    ghost invariant = { λ s. IsGoing s.progress × IsReady s.progress × IsSumming s.progress × HasEnds s.ends s.progress.spots.items };
+    ghost invariant = { λ s. IsProgress s.progress × LoadsNext s.progress × IsSumming s.progress
+        × HasEnds s.ends s.progress.spots.items };
 }
 
 impl Copier {
@@ -61,7 +62,8 @@ impl Copier {
         ensures slots { IfOk result (λ s. s.slots ≡ slots) }
         ensures start { IfOk result (λ s. s.done ≡ 0) }
         ensures whole { IfOk result (λ s. s.whole ≡ whole) }
-        ensures copied { IfOk result (λ s. (payloads : ℕ → List ℕ) (told : SinkTold) → HasCopied payloads told told s) }
+        ensures copied { IfOk result (λ s. (payloads : ℕ → List ℕ) (told : SinkTold)
+            → HasCopied payloads told told s) }
     {
         let ends = ends_of(alloc, spots.as_slice())?;
         let present = Vec::with_capacity(alloc, slots as usize)?;
@@ -90,7 +92,8 @@ impl Copier {
     pub fn wants(&self) -> Option<Id>
         ensures next { result ≡ wanted self.now }
         ensures done { IsNone result ↔ (self.now.done ≡ length self.now.spots) }
-        ensures all { IsNone result → (payloads : ℕ → List ℕ) (before now : SinkTold) → HasCopied payloads before now self.now
+        ensures all { IsNone result → (payloads : ℕ → List ℕ) (before now : SinkTold)
+            → HasCopied payloads before now self.now
             → Takes before.taken now.taken (version_bytes payloads self.now.spots) }
         ensures served { IsNone result → All (λ step. step ≢ Serve) self.now.steps }
     {
@@ -126,17 +129,21 @@ impl Copier {
         ensures later { (K.told sink.old).faults ≤ (K.told sink.new).faults }
 
         // What holds with any payloads of which this is the wanted one.
-        ensures ok { OnOk result ((payloads : ℕ → List ℕ) (before : SinkTold) → HasCopied payloads before (K.told sink.old) self.old
+        ensures ok { OnOk result ((payloads : ℕ → List ℕ) (before : SinkTold)
+            → HasCopied payloads before (K.told sink.old) self.old
             → IsWanted payloads self.old payload.items
             → HasCopied payloads before (K.told sink.new) self.new) }
-        ensures sum { OnOk result ((payloads : ℕ → List ℕ) (before : SinkTold) → HasCopied payloads before (K.told sink.old) self.old
+        ensures sum { OnOk result ((payloads : ℕ → List ℕ) (before : SinkTold)
+            → HasCopied payloads before (K.told sink.old) self.old
             → IsWanted payloads self.old payload.items
-            → wanted self.new ≡ None → IfSome self.old.whole (λ whole. fp (version_bytes payloads self.old.spots) ≡ whole.want)) }
-        ensures err { IfErr result (λ e. (payloads : ℕ → List ℕ) (before : SinkTold) → HasCopied payloads before (K.told sink.old) self.old
+            → wanted self.new ≡ None
+            → IfSome self.old.whole (λ whole. fp (version_bytes payloads self.old.spots) ≡ whole.want)) }
+        ensures err { IfErr result (λ e. (payloads : ℕ → List ℕ) (before : SinkTold)
+            → HasCopied payloads before (K.told sink.old) self.old
             → IsWanted payloads self.old payload.items
             → IsTakenAt (version_bytes payloads self.old.spots) before (K.told sink.new) e) }
 
-        ensures cause { IfErr result (IsCause self.old.whole (K.told sink.old) (K.told sink.new)) }
+        ensures cause { IfErr result (IsOutputFault self.old.whole (K.told sink.old) (K.told sink.new)) }
     {
         self.progress.give(payload, sink)
     }

@@ -1,7 +1,7 @@
 // The payloads that are present.
 ghost use Rattle.std.specs.Prelude.{◌≡◌, IsTrue, vec_capacity};
 ghost use Rattle.vault_types.specs.Lists.{has};
-ghost use Rattle.restore_assembler.specs.Payloads.{ids_of, bytes_under, without};
+ghost use Rattle.restore_assembler.specs.Payloads.{ids_of, bytes_under, without_payload};
 
 use vault_types::Id;
 
@@ -27,7 +27,7 @@ pub fn bytes_of(present: &[Payload], id: Id) -> &[u8]
 
 // Lets the payload of that container go.
 pub fn evict(present: &mut Vec<Payload>, id: Id)
-    ensures items { present.new.items ≡ without id present.old.items }
+    ensures items { present.new.items ≡ without_payload id present.old.items }
     ensures capacity { vec_capacity present.new ≡ vec_capacity present.old }
 {
     present.retain(|payload| id != payload.id);

@@ -12,10 +12,11 @@ ghost use Rattle.vault_types.specs.Bytes.{spot_bytes};
 ghost use Rattle.vault_types.specs.Plans.{loads as loads_of};
 ghost use Rattle.vault_traits.specs.Counts.{Rose};
 ghost use Rattle.vault_traits.specs.Told.{SinkTold};
-ghost use Rattle.restore_assembler.specs.Payloads.{ids_of, Covers, AreCovering, AreKnown, run_of, first_id};
-ghost use Rattle.restore_assembler.specs.Writing.{IsSumOf, IsWritten, IsCutOff};
-ghost use Rattle.restore_assembler.specs.Copying.{wanted as wanted_of, IsWanted, IsCovered, HasCopied, IsCause, IsTakenAt, version_bytes};
-ghost use Rattle.restore_assembler.specs.Progress.{left_of, left_bytes, starts_with_load, IsGoing, IsReady, IsSumming, Advances, seen_of};
+ghost use Rattle.restore_assembler.specs.Payloads.{ids_of, Covers, AreCovering, AreKnown, run_length, first_id};
+ghost use Rattle.vault_traits.specs.CutOff.{IsCutOff};
+ghost use Rattle.restore_assembler.specs.Writing.{IsSumOf, IsWrittenWithSum};
+ghost use Rattle.restore_assembler.specs.Copying.{wanted as wanted_of, IsWanted, IsCovered, HasCopied, IsOutputFault, IsTakenAt, version_bytes};
+ghost use Rattle.restore_assembler.specs.Progress.{left_spots, left_bytes, starts_with_load, IsProgress, LoadsNext, IsSumming, Advances, seen_of};
 
 use crate::payload::{Payload, bytes_of, evict};
 use crate::writing::write_run;
@@ -39,7 +40,7 @@ pub struct Progress {
 
 // How many spots at the front lie in that container.
 fn run_len(spots: &[Spot], id: Id) -> usize
-    ensures run { result ≡ run_of id spots.now }
+    ensures run { result ≡ run_length id spots.now }
     ensures within { result ≤ length spots.now }
 {
     let mut run = 0;
@@ -53,17 +54,23 @@ impl Progress {
     // Writes the spots of the next request, whose payload is present.
     fn serve<K: Sink>(&mut self, sink: &mut K) -> Result<(), Failed>
         requires some { self.old.done < length self.old.spots.items }
-        requires present { IsTrue (has (first_id (left_of self.old)) (ids_of self.old.present.items)) }
+        requires present { IsTrue (has (first_id (left_spots self.old)) (ids_of self.old.present.items)) }
         requires covering { AreCovering self.old.spots.items self.old.present.items }
         ensures stays { self.new ≡ record self.old { done = self.new.done; sum = self.new.sum } }
         ensures kept { OnOk result (is_some self.new.sum ≡ is_some self.old.sum) }
         ensures later { OnOk result ((K.told sink.old).faults ≤ (K.told sink.new).faults) }
         ensures failed { OnErr result (Rose (K.told sink.old).faults (K.told sink.new).faults) }
         ensures err_done { OnErr result (self.new.done ≡ self.old.done) }
-        ensures done { OnOk result (self.new.done ≡ self.old.done + run_of (first_id (left_of self.old)) (left_of self.old)) }
+        ensures done { OnOk result
+            (self.new.done
+            ≡ self.old.done + run_length (first_id (left_spots self.old)) (left_spots self.old)) }
         ensures within { OnOk result (self.new.done ≤ length self.old.spots.items) }
         ensures ok { OnOk result ((payload : ℕ → List ℕ) → AreKnown payload self.old.present.items
-            → IsWritten (flat_map (spot_bytes payload) (take (run_of (first_id (left_of self.old)) (left_of self.old)) (left_of self.old))) (K.told sink.old) (K.told sink.new) self.old.sum self.new.sum) }
+            → IsWrittenWithSum
+            (flat_map (spot_bytes payload)
+            (take (run_length (first_id (left_spots self.old)) (left_spots self.old))
+            (left_spots self.old)))
+            (K.told sink.old) (K.told sink.new) self.old.sum self.new.sum) }
         ensures err { OnErr result ((payload : ℕ → List ℕ) → AreKnown payload self.old.present.items
             → IsCutOff (left_bytes payload self.old) (K.told sink.old) (K.told sink.new)) }
     {
@@ -78,16 +85,17 @@ impl Progress {
 
     // Takes the next step, unless it is a load.
     fn take_step<K: Sink>(&mut self, sink: &mut K) -> Result<bool, Failed>
-        requires going { IsGoing self.old }
+        requires going { IsProgress self.old }
         requires some { self.old.done < length self.old.spots.items }
-        ensures going { IsGoing self.new }
+        ensures going { IsProgress self.new }
         ensures failed { OnErr result (Rose (K.told sink.old).faults (K.told sink.new).faults) }
         ensures stays { self.new.spots ≡ self.old.spots }
         ensures slots { self.new.slots ≡ self.old.slots }
         ensures whole { self.new.whole ≡ self.old.whole }
         ensures taken { IfOk result (λ taken. IsTrue taken → self.new.step ≡ self.old.step + 1) }
         ensures left { OnOk result (self.new.step ≤ length self.new.steps.items) }
-        ensures load { IfOk result (λ taken. taken ≡ false → IsTrue (starts_with_load (drop self.new.step self.new.steps.items))) }
+        ensures load { IfOk result (λ taken. taken ≡ false
+            → IsTrue (starts_with_load (drop self.new.step self.new.steps.items))) }
         ensures advances { OnOk result (Advances self.old self.new (K.told sink.old) (K.told sink.new)) }
         ensures err { OnErr result ((payload : ℕ → List ℕ) → AreKnown payload self.old.present.items
             → IsCutOff (left_bytes payload self.old) (K.told sink.old) (K.told sink.new)) }
@@ -109,13 +117,13 @@ impl Progress {
 
     // Takes the steps up to the next load, or to the end of what is to be written.
     pub fn advance<K: Sink>(&mut self, sink: &mut K) -> Result<(), Failed>
-        requires { IsGoing self.old }
-        ensures going { IsGoing self.new }
+        requires { IsProgress self.old }
+        ensures going { IsProgress self.new }
         ensures failed { OnErr result (Rose (K.told sink.old).faults (K.told sink.new).faults) }
         ensures stays { self.new.spots ≡ self.old.spots }
         ensures slots { self.new.slots ≡ self.old.slots }
         ensures whole { self.new.whole ≡ self.old.whole }
-        ensures ready { OnOk result (IsReady self.new) }
+        ensures ready { OnOk result (LoadsNext self.new) }
         ensures advances { OnOk result (Advances self.old self.new (K.told sink.old) (K.told sink.new)) }
         ensures err { OnErr result ((payload : ℕ → List ℕ) → AreKnown payload self.old.present.items
             → IsCutOff (left_bytes payload self.old) (K.told sink.old) (K.told sink.new)) }
@@ -130,11 +138,14 @@ impl Progress {
 
     // The next load, or none where all is written.
     pub fn wanted(&self) -> Option<Id>
-        requires going { IsGoing self.now }
-        requires ready { IsReady self.now }
+        requires going { IsProgress self.now }
+        requires ready { LoadsNext self.now }
         ensures next { result ≡ wanted_of (seen_of self.now) }
         ensures some { IsSome result ↔ (self.now.done < length self.now.spots.items) }
-        ensures step { IfSome result (λ id. drop self.now.step self.now.steps.items ≡ Load id ∷ drop (self.now.step + 1) self.now.steps.items) }
+        ensures step { IfSome result
+            (λ id.
+            drop self.now.step self.now.steps.items
+            ≡ Load id ∷ drop (self.now.step + 1) self.now.steps.items) }
     {
         if self.done == self.spots.len() {
             return None;
@@ -147,12 +158,14 @@ impl Progress {
 
     // Takes a load: the payload is present from then on.
     fn load(&mut self, id: Id, bytes: Vec<u8>)
-        requires going { IsGoing self.old }
-        requires step { drop self.old.step self.old.steps.items ≡ Load id ∷ drop (self.old.step + 1) self.old.steps.items }
+        requires going { IsProgress self.old }
+        requires step { drop self.old.step self.old.steps.items
+            ≡ Load id ∷ drop (self.old.step + 1) self.old.steps.items }
         requires covers { Covers id bytes.items self.old.spots.items }
         ensures stays { self.new ≡ record self.old { present = self.new.present; step = self.old.step + 1 } }
-        ensures present { self.new.present.items ≡ record { id = id; bytes = bytes } ∷ self.old.present.items }
-        ensures going { IsGoing self.new }
+        ensures present { self.new.present.items
+            ≡ record { id = id; bytes = bytes } ∷ self.old.present.items }
+        ensures going { IsProgress self.new }
     {
         match self.present.insert(0, Payload { id, bytes }) {
             Ok(()) => self.step += 1,
@@ -162,9 +175,10 @@ impl Progress {
 
     // Lets all that is left go.
     fn stop(&mut self)
-        requires { IsGoing self.old }
-        ensures stays { self.new ≡ record self.old { done = length self.old.spots.items; step = length self.old.steps.items } }
-        ensures going { IsGoing self.new }
+        requires { IsProgress self.old }
+        ensures stays { self.new
+            ≡ record self.old { done = length self.old.spots.items; step = length self.old.steps.items } }
+        ensures going { IsProgress self.new }
     {
         self.done = self.spots.len();
         self.step = self.steps.len();
@@ -175,10 +189,14 @@ impl Progress {
         ensures stays { self.new ≡ record self.old { sum = self.new.sum } }
         ensures early { self.old.done < length self.old.spots.items → self.new.sum ≡ self.old.sum }
         ensures late { length self.old.spots.items ≤ self.old.done → self.new.sum ≡ None }
-        ensures ok { OnOk result (length self.old.spots.items ≤ self.old.done → is_some self.old.sum ≡ is_some self.old.whole
-            → (bytes : List ℕ) → IsSumOf self.old.sum bytes → IfSome self.old.whole (λ whole. fp bytes ≡ whole.want)) }
-        ensures err { IfErr result (λ e. (length self.old.spots.items ≤ self.old.done) × (whole : Whole) × (found : Fp) × (self.old.whole ≡ Some whole) × (found ≢ whole.want)
-            × (e ≡ fault.Damaged kind.Recipe whole.number (why.Whole whole.want found)) × ((bytes : List ℕ) → IsSumOf self.old.sum bytes → found ≡ fp bytes)) }
+        ensures ok { OnOk result (length self.old.spots.items ≤ self.old.done
+            → is_some self.old.sum ≡ is_some self.old.whole
+            → (bytes : List ℕ) → IsSumOf self.old.sum bytes
+            → IfSome self.old.whole (λ whole. fp bytes ≡ whole.want)) }
+        ensures err { IfErr result (λ e. (length self.old.spots.items ≤ self.old.done) × (whole : Whole)
+            × (found : Fp) × (self.old.whole ≡ Some whole) × (found ≢ whole.want)
+            × (e ≡ fault.Damaged kind.Recipe whole.number (why.Whole whole.want found))
+            × ((bytes : List ℕ) → IsSumOf self.old.sum bytes → found ≡ fp bytes)) }
     {
         if self.done < self.spots.len() {
             return Ok(());
@@ -202,30 +220,37 @@ impl Progress {
 
     // Takes the payload that is wanted, and writes what can be written with it.
     pub fn give<K: Sink>(&mut self, payload: Vec<u8>, sink: &mut K) -> Result<(), Fault>
-        requires going { IsGoing self.old }
-        requires ready { IsReady self.old }
+        requires going { IsProgress self.old }
+        requires ready { LoadsNext self.old }
         requires summing { IsSumming self.old }
         requires covered { IsCovered (seen_of self.old) payload.items }
-        ensures going { IsGoing self.new }
-        ensures ready { IsReady self.new }
+        ensures going { IsProgress self.new }
+        ensures ready { LoadsNext self.new }
         ensures summing { IsSumming self.new }
         ensures spots { self.new.spots ≡ self.old.spots }
         ensures slots { self.new.slots ≡ self.old.slots }
         ensures whole { self.new.whole ≡ self.old.whole }
-        ensures loads { OnOk result (loads_of (seen_of self.new).steps + 1 ≡ loads_of (seen_of self.old).steps) }
-        ensures behind { OnOk result ((k : ℕ) × ((seen_of self.new).steps ≡ drop k (seen_of self.old).steps)) }
+        ensures loads { OnOk result
+            (loads_of (seen_of self.new).steps + 1 ≡ loads_of (seen_of self.old).steps) }
+        ensures behind { OnOk result ((k : ℕ)
+            × ((seen_of self.new).steps ≡ drop k (seen_of self.old).steps)) }
         ensures over { OnErr result (self.new.done ≡ length self.old.spots.items) }
         ensures later { (K.told sink.old).faults ≤ (K.told sink.new).faults }
 
-        ensures ok { OnOk result ((payloads : ℕ → List ℕ) (before : SinkTold) → HasCopied payloads before (K.told sink.old) (seen_of self.old)
+        ensures ok { OnOk result ((payloads : ℕ → List ℕ) (before : SinkTold)
+            → HasCopied payloads before (K.told sink.old) (seen_of self.old)
             → IsWanted payloads (seen_of self.old) payload.items
             → HasCopied payloads before (K.told sink.new) (seen_of self.new)) }
-        ensures sum { OnOk result ((payloads : ℕ → List ℕ) (before : SinkTold) → HasCopied payloads before (K.told sink.old) (seen_of self.old)
+        ensures sum { OnOk result ((payloads : ℕ → List ℕ) (before : SinkTold)
+            → HasCopied payloads before (K.told sink.old) (seen_of self.old)
             → IsWanted payloads (seen_of self.old) payload.items
-            → length self.old.spots.items ≤ self.new.done → IfSome self.old.whole (λ whole. fp (version_bytes payloads self.old.spots.items) ≡ whole.want)) }
+            → length self.old.spots.items ≤ self.new.done
+            → IfSome self.old.whole
+            (λ whole. fp (version_bytes payloads self.old.spots.items) ≡ whole.want)) }
 
-        ensures cause { IfErr result (IsCause self.old.whole (K.told sink.old) (K.told sink.new)) }
-        ensures err { IfErr result (λ e. (payloads : ℕ → List ℕ) (before : SinkTold) → HasCopied payloads before (K.told sink.old) (seen_of self.old)
+        ensures cause { IfErr result (IsOutputFault self.old.whole (K.told sink.old) (K.told sink.new)) }
+        ensures err { IfErr result (λ e. (payloads : ℕ → List ℕ) (before : SinkTold)
+            → HasCopied payloads before (K.told sink.old) (seen_of self.old)
             → IsWanted payloads (seen_of self.old) payload.items
             → IsTakenAt (version_bytes payloads self.old.spots.items) before (K.told sink.new) e) }
     {

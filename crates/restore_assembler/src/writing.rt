@@ -1,28 +1,12 @@
 // Bytes of payloads, written to a sink.
 ghost use Rattle.std.specs.Prelude.{◌≡◌, ◌≤◌, ◌+◌, take, drop, length, flat_map, All, OnOk, OnErr};
 ghost use Rattle.vault_types.specs.Bytes.{spot_bytes};
-ghost use Rattle.vault_traits.specs.Told.{Takes};
-ghost use Rattle.restore_assembler.specs.Writing.{IsWritten, IsCutOff};
+ghost use Rattle.vault_traits.specs.CutOff.{IsCutOff};
+ghost use Rattle.restore_assembler.specs.Writing.{IsWrittenWithSum};
 
 use fingerprint_stage::RunningSum;
-use vault_traits::{Failed, Sink};
+use vault_traits::{Failed, Sink, write_all};
 use vault_types::Spot;
-
-// Writes all the bytes, unless the sink fails.
-fn write_all<K: Sink>(bytes: &[u8], sink: &mut K) -> Result<(), Failed>
-    ensures ok { OnOk result (Takes (K.told sink.old).taken (K.told sink.new).taken bytes.now) }
-    ensures later { OnOk result ((K.told sink.old).faults ≤ (K.told sink.new).faults) }
-    ensures err { OnErr result (IsCutOff bytes.now (K.told sink.old) (K.told sink.new)) }
-{
-    let mut done = 0;
-    while done < bytes.len() {
-        match sink.write(&bytes[done..]) {
-            Ok(n) => done += n,
-            Err(Failed) => return Err(Failed),
-        }
-    }
-    Ok(())
-}
 
 // Writes a piece, which the sum, if there is one, then has too.
 fn write_piece<K: Sink>(
@@ -30,7 +14,8 @@ fn write_piece<K: Sink>(
     sum: &mut Option<RunningSum>,
     sink: &mut K,
 ) -> Result<(), Failed>
-    ensures ok { OnOk result (IsWritten piece.now (K.told sink.old) (K.told sink.new) sum.old sum.new) }
+    ensures ok { OnOk result
+        (IsWrittenWithSum piece.now (K.told sink.old) (K.told sink.new) sum.old sum.new) }
     ensures err { OnErr result (IsCutOff piece.now (K.told sink.old) (K.told sink.new)) }
 {
     write_all(piece, sink)?;
@@ -48,8 +33,12 @@ pub fn write_run<K: Sink>(
     sink: &mut K,
 ) -> Result<(), Failed>
     requires { All (λ spot. spot.at + spot.len ≤ length payload.now) run.now }
-    ensures ok { OnOk result (IsWritten (flat_map (spot_bytes (λ _. payload.now)) run.now) (K.told sink.old) (K.told sink.new) sum.old sum.new) }
-    ensures err { OnErr result (IsCutOff (flat_map (spot_bytes (λ _. payload.now)) run.now) (K.told sink.old) (K.told sink.new)) }
+    ensures ok { OnOk result
+        (IsWrittenWithSum (flat_map (spot_bytes (λ _. payload.now)) run.now) (K.told sink.old)
+        (K.told sink.new)
+        sum.old sum.new) }
+    ensures err { OnErr result
+        (IsCutOff (flat_map (spot_bytes (λ _. payload.now)) run.now) (K.told sink.old) (K.told sink.new)) }
 {
     let mut start = 0;
     let mut end = 0;

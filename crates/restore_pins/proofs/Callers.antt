@@ -6,7 +6,7 @@ use Rattle.std.proofs.lemmas.List.Folds.{list_any-append}
 use Rattle.vault_types.specs.Lists.{has}
 use Rattle.vault_types.specs.Tables.{id_of}
 use Rattle.vault_types.specs.Events.{Pin, pinned_containers, pins_without}
-use Rattle.restore_pins.specs.Pins.{Listed, numbers, listed_ids, without, IsListOf, AreListsOf}
+use Rattle.restore_pins.specs.Pins.{Listed, numbers, listed_ids, without_pin, IsListOf, AreListsOf}
 
 -- the numbers are the same
 pub numbers-same : (ls : List Listed) (ps : List Pin) → AreListsOf ls ps → map (λ p. p.number) ps ≡ numbers ls
@@ -34,13 +34,13 @@ lists-more (k ∷ ls) [] l p h i = absurd h
 lists-more (k ∷ ls) (q ∷ ps) l p h i = (h.0, lists-more ls ps l p h.1 i)
 
 -- one pin less
-pub lists-without : (n : ℕ) (ls : List Listed) (ps : List Pin) → AreListsOf ls ps → AreListsOf (without n ls) (pins_without n ps)
+pub lists-without : (n : ℕ) (ls : List Listed) (ps : List Pin) → AreListsOf ls ps → AreListsOf (without_pin n ls) (pins_without n ps)
 lists-without n [] [] h = tt
 lists-without n [] (p ∷ ps) h = absurd h
 lists-without n (l ∷ ls) [] h = absurd h
 lists-without n (l ∷ ls) (p ∷ ps) h = step (l.number == n) (p.number == n) (ap (λ m. m == n) h.0.number) (lists-without n ls ps h.1)
   where
-    step : (a b : Bool) → b ≡ a → AreListsOf (without n ls) (pins_without n ps) → AreListsOf (cond (not a) (l ∷ without n ls) (without n ls)) (cond (not b) (p ∷ pins_without n ps) (pins_without n ps))
+    step : (a b : Bool) → b ≡ a → AreListsOf (without_pin n ls) (pins_without n ps) → AreListsOf (cond (not a) (l ∷ without_pin n ls) (without_pin n ls)) (cond (not b) (p ∷ pins_without n ps) (pins_without n ps))
     step true true e i = i
     step true false e i = absurd (cc)
     step false true e i = absurd (cc)

@@ -8,23 +8,23 @@ use Rattle.std.proofs.lemmas.List.{map-append}
 use Rattle.std.proofs.lemmas.List.Folds.{list_any-append}
 use Rattle.std.proofs.lemmas.Map.Keys.{IsDistinct-push, IsDistinct-head, IsDistinct-tail, IsDistinct-cons}
 use Rattle.vault_types.specs.Lists.{has}
-use Rattle.restore_pins.specs.Pins.{Listed, numbers, listed_ids, ids_at, without}
-use Rattle.restore_pins.specs.Numbers.{AreNumbered}
+use Rattle.restore_pins.specs.Pins.{Listed, numbers, listed_ids, ids_at, without_pin}
+use Rattle.restore_pins.specs.Numbers.{ArePinNumbers}
 
 -- numbers
 
-pub numbered-none : AreNumbered 0 []
+pub numbered-none : ArePinNumbers 0 []
 unfolding IsDistinct
 numbered-none = record { below = tt; differ = tt }
 
-pub fresh : (next : ℕ) (pins : List Listed) → AreNumbered next pins → has next (numbers pins) ≡ false
+pub fresh : (next : ℕ) (pins : List Listed) → ArePinNumbers next pins → has next (numbers pins) ≡ false
 fresh next pins h = above (numbers pins) h.below
   where
     above : (ns : List ℕ) → AllByRecursion (λ n. n < next) ns → has next ns ≡ false
     above [] i = refl
     above (n ∷ ns) i = let other : nat_eq next n ≡ false = grind (arith, nat_tests, i.0) in ap (λ b. b || has next ns) other ∙ above ns i.1
 
-pub numbered-more : (next : ℕ) (pins : List Listed) (p : Listed) → AreNumbered next pins → p.number ≡ next → AreNumbered (next + 1) (pins ++ p ∷ [])
+pub numbered-more : (next : ℕ) (pins : List Listed) (p : Listed) → ArePinNumbers next pins → p.number ≡ next → ArePinNumbers (next + 1) (pins ++ p ∷ [])
 numbered-more next pins p h e = record {
   below = subst (AllByRecursion (λ n. n < next + 1)) (sym (map-append (λ q. q.number) pins (p ∷ []))) (more (numbers pins) h.below);
   differ = subst (IsDistinct nat_eq) (sym (map-append (λ q. q.number) pins (p ∷ []))) (IsDistinct-push nat_eq_equiv (numbers pins) p.number h.differ (ap (λ n. has n (numbers pins)) e ∙ fresh next pins h));
@@ -94,21 +94,21 @@ ids-at_none n (p ∷ pins) l = step (nat_eq p.number n) (place-cons n p pins) (�
 
 -- what is left without it
 
-others : (n : ℕ) (pins : List Listed) → AllByRecursion (λ k. nat_eq n k ≡ false) (numbers pins) → without n pins ≡ pins
+others : (n : ℕ) (pins : List Listed) → AllByRecursion (λ k. nat_eq n k ≡ false) (numbers pins) → without_pin n pins ≡ pins
 others n [] h = refl
 others n (p ∷ pins) h = step (p.number == n) (grind (arith, nat_tests, h.0)) (others n pins h.1)
   where
-    step : (b : Bool) → b ≡ false → without n pins ≡ pins → cond (not b) (p ∷ without n pins) (without n pins) ≡ p ∷ pins
+    step : (b : Bool) → b ≡ false → without_pin n pins ≡ pins → cond (not b) (p ∷ without_pin n pins) (without_pin n pins) ≡ p ∷ pins
     step true e i = cc
     step false e i = ap (λ ps. p ∷ ps) i
 
-pub removed : (n : ℕ) (pins : List Listed) → IsDistinct nat_eq (numbers pins) → place_of n pins < length pins → remove pins (place_of n pins) ≡ without n pins
+pub removed : (n : ℕ) (pins : List Listed) → IsDistinct nat_eq (numbers pins) → place_of n pins < length pins → remove pins (place_of n pins) ≡ without_pin n pins
 removed n [] d l = absurd (omega arith)
 removed n (p ∷ pins) d l =
     ap (remove (p ∷ pins)) (place-cons n p pins) ∙ step (nat_eq p.number n) refl (place-cons n p pins) (λ f. removed n pins (IsDistinct-tail nat_eq p.number (numbers pins) d) f)
   where
-    step : (b : Bool) → nat_eq p.number n ≡ b → place_of n (p ∷ pins) ≡ cond b 0 (1 + place_of n pins) → (place_of n pins < length pins → remove pins (place_of n pins) ≡ without n pins)
-        → remove (p ∷ pins) (cond b 0 (1 + place_of n pins)) ≡ cond (not b) (p ∷ without n pins) (without n pins)
+    step : (b : Bool) → nat_eq p.number n ≡ b → place_of n (p ∷ pins) ≡ cond b 0 (1 + place_of n pins) → (place_of n pins < length pins → remove pins (place_of n pins) ≡ without_pin n pins)
+        → remove (p ∷ pins) (cond b 0 (1 + place_of n pins)) ≡ cond (not b) (p ∷ without_pin n pins) (without_pin n pins)
     step true t e g =
         let same : p.number ≡ n = grind (arith, nat_tests) in
         sym (others n pins (subst (λ k. AllByRecursion (λ m. nat_eq k m ≡ false) (numbers pins)) same (IsDistinct-head nat_eq p.number (numbers pins) d)))
@@ -116,27 +116,27 @@ removed n (p ∷ pins) d l =
         let next : 1 + place_of n pins ≡ suc (place_of n pins) = omega arith in
         ap (remove (p ∷ pins)) next ∙ ap (λ ps. p ∷ ps) (g (omega (arith, e, l)))
 
-pub numbered-without : (next n : ℕ) (pins : List Listed) → AreNumbered next pins → AreNumbered next (without n pins)
+pub numbered-without : (next n : ℕ) (pins : List Listed) → ArePinNumbers next pins → ArePinNumbers next (without_pin n pins)
 numbered-without next n pins h = record { below = less pins h.below; differ = apart pins h.differ }
   where
-    kept : (Q : ℕ → Type 0) (ps : List Listed) → AllByRecursion Q (numbers ps) → AllByRecursion Q (numbers (without n ps))
+    kept : (Q : ℕ → Type 0) (ps : List Listed) → AllByRecursion Q (numbers ps) → AllByRecursion Q (numbers (without_pin n ps))
     kept Q [] i = tt
     kept Q (p ∷ ps) i = step (p.number == n) (kept Q ps i.1)
       where
-        step : (b : Bool) → AllByRecursion Q (numbers (without n ps)) → AllByRecursion Q (numbers (cond (not b) (p ∷ without n ps) (without n ps)))
+        step : (b : Bool) → AllByRecursion Q (numbers (without_pin n ps)) → AllByRecursion Q (numbers (cond (not b) (p ∷ without_pin n ps) (without_pin n ps)))
         step true j = j
         step false j = (i.0, j)
 
-    less : (ps : List Listed) → AllByRecursion (λ m. m < next) (numbers ps) → AllByRecursion (λ m. m < next) (numbers (without n ps))
+    less : (ps : List Listed) → AllByRecursion (λ m. m < next) (numbers ps) → AllByRecursion (λ m. m < next) (numbers (without_pin n ps))
     less ps i = kept (λ m. m < next) ps i
 
-    apart : (ps : List Listed) → IsDistinct nat_eq (numbers ps) → IsDistinct nat_eq (numbers (without n ps))
+    apart : (ps : List Listed) → IsDistinct nat_eq (numbers ps) → IsDistinct nat_eq (numbers (without_pin n ps))
     apart [] i = i
     apart (p ∷ ps) i = step (p.number == n) (apart ps (IsDistinct-tail nat_eq p.number (numbers ps) i))
       where
-        step : (b : Bool) → IsDistinct nat_eq (numbers (without n ps)) → IsDistinct nat_eq (numbers (cond (not b) (p ∷ without n ps) (without n ps)))
+        step : (b : Bool) → IsDistinct nat_eq (numbers (without_pin n ps)) → IsDistinct nat_eq (numbers (cond (not b) (p ∷ without_pin n ps) (without_pin n ps)))
         step true j = j
-        step false j = IsDistinct-cons nat_eq p.number (numbers (without n ps)) (kept (λ m. nat_eq p.number m ≡ false) ps (IsDistinct-head nat_eq p.number (numbers ps) i)) j
+        step false j = IsDistinct-cons nat_eq p.number (numbers (without_pin n ps)) (kept (λ m. nat_eq p.number m ≡ false) ps (IsDistinct-head nat_eq p.number (numbers ps) i)) j
 
 -- the ids that the pins list
 

@@ -4,6 +4,6 @@ use Rattle.std.specs.List.{AllByRecursion, IsDistinct}
 use Rattle.restore_pins.specs.Pins.{Listed, numbers}
 
 -- the numbers of the pins differ, and are below the next one
-pub record AreNumbered (next : ℕ) (pins : List Listed) : Type 0 where
+pub record ArePinNumbers (next : ℕ) (pins : List Listed) : Type 0 where
   pub below : AllByRecursion (λ n. n < next) (numbers pins)
   pub differ : IsDistinct nat_eq (numbers pins)

@@ -24,8 +24,8 @@ ids_at [] number = []
 ids_at (p ∷ pins) number = if nat_eq p.number number then p.ids else ids_at pins number
 
 -- the pins but the one with this number
-abbrev pub without : ℕ → List Listed → List Listed
-without number pins = filter (λ p. not (p.number == number)) pins
+abbrev pub without_pin : ℕ → List Listed → List Listed
+without_pin number pins = filter (λ p. not (p.number == number)) pins
 
 -- the list is that of a pin with its containers
 pub record IsListOf (p : Listed) (q : Pin) : Type 0 where

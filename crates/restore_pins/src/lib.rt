@@ -6,7 +6,7 @@ ghost use Rattle.std.specs.Prelude.{◌≡◌, ◌++◌, ◌∷◌, [], List, ma
 ghost use Rattle.vault_types.specs.Lists.{has};
 ghost use Rattle.vault_types.specs.Tables.{id_of};
 ghost use Rattle.vault_types.specs.Events.{Pin as PinOf, pinned_containers, pins_without};
-ghost use Rattle.restore_pins.specs.Pins.{numbers, listed_ids, ids_at, without, IsListOf, AreListsOf};
+ghost use Rattle.restore_pins.specs.Pins.{numbers, listed_ids, ids_at, without_pin, IsListOf, AreListsOf};
 
 mod pin;
 
@@ -43,11 +43,11 @@ impl Model for Pins {
 
     ghost Value = { List Listed };
 
-    ghost use Rattle.restore_pins.specs.Numbers.{AreNumbered};
+    ghost use Rattle.restore_pins.specs.Numbers.{ArePinNumbers};
 
     ghost view = { λ p. p.pins.items };
 
-    ghost invariant = { λ p. AreNumbered p.next p.pins.items };
+    ghost invariant = { λ p. ArePinNumbers p.next p.pins.items };
 }
 
 impl Pins {
@@ -64,9 +64,12 @@ impl Pins {
     /// Pins a version with the containers of these ids, in any order. After `Memory` the pins are as before, and the ids
     /// are gone; that is the answer too where all 2^64 - 1 numbers were given.
     pub fn pin(&mut self, alloc: Global, version: Version, ids: Vec<Id>) -> Result<PinNo, Memory>
-        ensures pinned { IfOk result (λ no. self.new ≡ self.old ++ record { number = no; version = version; ids = ids.items } ∷ []) }
+        ensures pinned { IfOk result
+            (λ no. self.new ≡ self.old ++ record { number = no; version = version; ids = ids.items } ∷ []) }
         ensures fresh { IfOk result (λ no. has no (numbers self.old) ≡ false) }
-        ensures pins { (pins : List PinOf) (q : PinOf) → AreListsOf self.old pins → IfOk result (λ no. IsListOf (record { number = no; version = version; ids = ids.items }) q → AreListsOf self.new (pins ++ q ∷ [])) }
+        ensures pins { (pins : List PinOf) (q : PinOf) → AreListsOf self.old pins
+            → IfOk result (λ no. IsListOf (record { number = no; version = version; ids = ids.items }) q
+            → AreListsOf self.new (pins ++ q ∷ [])) }
         ensures unchanged { OnErr result (self.new ≡ self.old) }
     {
         let next = self.next.checked_add(1).ok_or(Memory)?;
@@ -80,7 +83,8 @@ impl Pins {
     /// Whether a pin lists the container, by one look-up for each pin. Takes no memory.
     pub fn holds(&self, id: Id) -> bool
         ensures listed { result ≡ has id (listed_ids self.now) }
-        ensures pins { (pins : List PinOf) → AreListsOf self.now pins → result ≡ has id (map id_of (pinned_containers pins)) }
+        ensures pins { (pins : List PinOf) → AreListsOf self.now pins
+            → result ≡ has id (map id_of (pinned_containers pins)) }
     {
         any_lists(self.pins.as_slice(), id)
     }
@@ -99,8 +103,9 @@ impl Pins {
     pub fn release(&mut self, no: PinNo) -> Vec<Id>
         requires { IsTrue (has no (numbers self.old)) }
         ensures ids { result.items ≡ ids_at self.old no }
-        ensures left { self.new ≡ without no self.old }
-        ensures pins { (pins : List PinOf) → AreListsOf self.old pins → AreListsOf self.new (pins_without no pins) }
+        ensures left { self.new ≡ without_pin no self.old }
+        ensures pins { (pins : List PinOf) → AreListsOf self.old pins
+            → AreListsOf self.new (pins_without no pins) }
     {
         match place(self.pins.as_slice(), no.number) {
             Some(at) => self.pins.remove(at).into_ids(),

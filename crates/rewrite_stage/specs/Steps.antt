@@ -14,7 +14,9 @@ only_kept kept old = only_if (λ c. has c kept) old
 
 -- the containers that the settings allow in a segment, where these count
 abbrev pub allowed_of : JobConfig → List (Option ℕ) → List (Option ℕ)
-allowed_of config counted = map (λ o. only_if (λ c. if caps config.rewrite then has c (kept_ids counted config.cap) else true) o) counted
+allowed_of config counted =
+    map (λ o. only_if (λ c. if caps config.rewrite then has c (kept_ids counted config.cap) else true) o)
+    counted
 
 -- the fingerprints of some chunks with these containers, by place
 abbrev pub pairs : List (List ℕ) → List (Option ℕ) → List (Fp × Option ℕ)

@@ -38,7 +38,12 @@ impl Model for Decider {
 
     ghost Value = { Deciding };
 
-    ghost view = { λ d. record { index = d.index; rules = record { sparse = d.sparse.items; config = d.config }; written = d.written.keys } };
+    ghost view = { λ d.
+        record {
+          index = d.index;
+          rules = record { sparse = d.sparse.items; config = d.config };
+          written = d.written.keys;
+        } };
 
     ghost invariant = { λ d. IsNonDecreasing d.sparse.items };
 }
@@ -91,7 +96,8 @@ fn kept_one(kept: &[Id], old: Option<Id>) -> Option<Id>
 
 /// The old containers of a segment's chunks, of which the segment keeps at most `cap`.
 fn capped(alloc: Global, counted: &[Option<Id>], cap: u32) -> Result<Vec<Option<Id>>, Memory>
-    ensures { IfOk result (λ allowed. allowed.items ≡ map (only_kept (kept_ids counted.now cap)) counted.now) }
+    ensures { IfOk result
+        (λ allowed. allowed.items ≡ map (only_kept (kept_ids counted.now cap)) counted.now) }
 {
     let kept = choose(alloc, counted, cap)?;
     let mut allowed = Vec::with_capacity(alloc, counted.len())?;
@@ -147,7 +153,8 @@ impl Decider {
 
     /// The old container that counts for a chunk, where the index names this one.
     fn counted_one(&self, fp: &Fp, found: Option<Id>) -> Option<Id>
-        ensures { (r : Rules) (places : List (Key × Stored)) → HasDecided self.now r places → result ≡ counted_id r places (record { fp = fp.now; found = found }) }
+        ensures { (r : Rules) (places : List (Key × Stored)) → HasDecided self.now r places
+            → result ≡ counted_id r places (record { fp = fp.now; found = found }) }
     {
         if self.written.contains(fp) {
             return None;
@@ -167,7 +174,9 @@ impl Decider {
         chunks: &[Chunk],
         found: &[Option<Id>],
     ) -> Result<Vec<Option<Id>>, Memory>
-        ensures { (r : Rules) (places : List (Key × Stored)) → HasDecided self.now r places → IfOk result (λ counted. counted.items ≡ map (counted_id r places) (looked_with chunks.now found.now)) }
+        ensures { (r : Rules) (places : List (Key × Stored)) → HasDecided self.now r places
+            → IfOk result
+            (λ counted. counted.items ≡ map (counted_id r places) (looked_with chunks.now found.now)) }
     {
         let mut counted = Vec::with_capacity(alloc, chunks.len())?;
         for chunk in chunks {
@@ -180,8 +189,10 @@ impl Decider {
     /// Decides for one chunk, where it is known which old container it may lie in.
     fn decide_one(&mut self, fp: Fp, old: Option<Id>) -> Result<How, Memory>
         ensures index { self.new.index ≡ self.old.index }
-        ensures how { (r : Rules) (places : List (Key × Stored)) → HasDecided self.old r places → IfOk result (λ how. how ≡ how_of (is_written places fp) old) }
-        ensures decided { (r : Rules) (places : List (Key × Stored)) → HasDecided self.old r places → IfOk result (λ how. HasDecided self.new r (places ++ (fp, how) ∷ [])) }
+        ensures how { (r : Rules) (places : List (Key × Stored)) → HasDecided self.old r places
+            → IfOk result (λ how. how ≡ how_of (is_written places fp) old) }
+        ensures decided { (r : Rules) (places : List (Key × Stored)) → HasDecided self.old r places
+            → IfOk result (λ how. HasDecided self.new r (places ++ (fp, how) ∷ [])) }
     {
         if self.written.contains(&fp) {
             return Ok(How::Own);
@@ -204,8 +215,13 @@ impl Decider {
     ) -> Result<Vec<Decided>, Memory>
         ensures index { self.new.index ≡ self.old.index }
         ensures chunks { IfOk result (λ decided. map (λ d. d.chunk) decided.items ≡ chunks.items) }
-        ensures places { (r : Rules) (places : List (Key × Stored)) → HasDecided self.old r places → IfOk result (λ decided. places ++ places_of decided.items ≡ decide_all places (pairs (map (λ d. d.chunk) decided.items) allowed.now)) }
-        ensures decided { (r : Rules) (places : List (Key × Stored)) → HasDecided self.old r places → IfOk result (λ decided. HasDecided self.new r (places ++ places_of decided.items)) }
+        ensures places { (r : Rules) (places : List (Key × Stored)) → HasDecided self.old r places
+            → IfOk result
+            (λ decided.
+            places ++ places_of decided.items
+            ≡ decide_all places (pairs (map (λ d. d.chunk) decided.items) allowed.now)) }
+        ensures decided { (r : Rules) (places : List (Key × Stored)) → HasDecided self.old r places
+            → IfOk result (λ decided. HasDecided self.new r (places ++ places_of decided.items)) }
     {
         let mut decided = Vec::with_capacity(alloc, chunks.len())?;
         for chunk in chunks {
@@ -221,8 +237,13 @@ impl Decider {
     pub fn segment(&mut self, alloc: Global, chunks: Vec<Chunk>) -> Result<Vec<Decided>, Memory>
         ensures index { self.new.index ≡ self.old.index }
         ensures chunks { IfOk result (λ decided. map (λ d. d.chunk) decided.items ≡ chunks.items) }
-        ensures places { (r : Rules) (places : List (Key × Stored)) → HasDecided self.old r places → IfOk result (λ decided. places ++ places_of decided.items ≡ decisions_of r places (looked_up self.old.index chunks.items)) }
-        ensures decided { (r : Rules) (places : List (Key × Stored)) → HasDecided self.old r places → IfOk result (λ decided. HasDecided self.new r (places ++ places_of decided.items)) }
+        ensures places { (r : Rules) (places : List (Key × Stored)) → HasDecided self.old r places
+            → IfOk result
+            (λ decided.
+            places ++ places_of decided.items
+            ≡ decisions_of r places (looked_up self.old.index chunks.items)) }
+        ensures decided { (r : Rules) (places : List (Key × Stored)) → HasDecided self.old r places
+            → IfOk result (λ decided. HasDecided self.new r (places ++ places_of decided.items)) }
     {
         let found = look_up(alloc, &self.index, chunks.as_slice())?;
         self.segment_with(alloc, chunks, found.as_slice())
@@ -239,8 +260,13 @@ impl Decider {
     ) -> Result<Vec<Decided>, Memory>
         ensures index { self.new.index ≡ self.old.index }
         ensures chunks { IfOk result (λ decided. map (λ d. d.chunk) decided.items ≡ chunks.items) }
-        ensures places { (r : Rules) (places : List (Key × Stored)) → HasDecided self.old r places → IfOk result (λ decided. places ++ places_of decided.items ≡ decisions_of r places (looked_with chunks.items found.now)) }
-        ensures decided { (r : Rules) (places : List (Key × Stored)) → HasDecided self.old r places → IfOk result (λ decided. HasDecided self.new r (places ++ places_of decided.items)) }
+        ensures places { (r : Rules) (places : List (Key × Stored)) → HasDecided self.old r places
+            → IfOk result
+            (λ decided.
+            places ++ places_of decided.items
+            ≡ decisions_of r places (looked_with chunks.items found.now)) }
+        ensures decided { (r : Rules) (places : List (Key × Stored)) → HasDecided self.old r places
+            → IfOk result (λ decided. HasDecided self.new r (places ++ places_of decided.items)) }
     {
         let counted = self.counted(alloc, chunks.as_slice(), found)?;
         let allowed = allowed(alloc, counted, self.config)?;

@@ -20,7 +20,7 @@ use Rattle.vault_types.proofs.FillLemmas.{same_fps, bytes_eq-same}
 use Rattle.keeper_catalog.specs.Catalog.{table_at}
 use Rattle.row_spots.specs.declared.offsets.ChunkSpan.{ChunkSpan}
 use Rattle.row_spots.specs.Spots.{spot_in, HasPlace, AreRuled, IsFirstWithout}
-use Rattle.row_spots.specs.Offsets.{place_from, place_at, fitting_spot, ArePlaces}
+use Rattle.row_spots.specs.Offsets.{place_from, span_at, fitting_spot, ArePlaces}
 
 contains_later : (r : TableRow) (rows : List TableRow) (x : TableRow) → Contains rows x → Contains (r ∷ rows) x
 contains_later r rows x h = (suc h.0, omega (arith, h.1), h.2)
@@ -107,22 +107,22 @@ module _ (r : Row) (t : Table) (apart : IsDistinct same_fp (map (λ q. q.fp) t.r
         absent = λ h. let wide : p.len ≡ r.len = subst (λ o. IsSomeAnd o (λ q. q.len ≡ r.len)) e (there_place 0 t.rows r.fp r.len apart h) in grind (arith, nat_tests);
       }
 
-pub answers : (tables : List (ℕ × Table)) (r : Row) → AreRuled tables → IsAnswer tables r (fitting_spot r (place_at tables r.id r.fp))
+pub answers : (tables : List (ℕ × Table)) (r : Row) → AreRuled tables → IsAnswer tables r (fitting_spot r (span_at tables r.id r.fp))
 answers tables r rules = record { spot = at.spot; placed = at.placed; absent = at.absent }
   where
     step : (o : Option Table) → table_at tables r.id ≡ o → AnswersAt o r (fitting_spot r (option_and_then (λ t. place_from 0 t.rows r.fp) o))
     step None e = record { spot = tt; placed = tt; absent = λ h. h }
     step (Some t) e = at_place r t (rules r.id t e).differ (place_from 0 t.rows r.fp) refl
 
-    at : AnswersAt (table_at tables r.id) r (fitting_spot r (place_at tables r.id r.fp))
+    at : AnswersAt (table_at tables r.id) r (fitting_spot r (span_at tables r.id r.fp))
     at = step (table_at tables r.id) refl
 
 -- what is known of the row's table gives its place
 pub known_place : (tables : List (ℕ × Table)) (known : List (ℕ × List (Fp × ChunkSpan))) (r : Row) → IsSomeAnd (lookup (nat_eq r.id) known) (ArePlaces tables r.id)
-    → option_and_then (lookup (same_fp r.fp)) (lookup (nat_eq r.id) known) ≡ place_at tables r.id r.fp
+    → option_and_then (lookup (same_fp r.fp)) (lookup (nat_eq r.id) known) ≡ span_at tables r.id r.fp
 known_place tables known r h = step (lookup (nat_eq r.id) known) h
   where
-    step : (o : Option (List (Fp × ChunkSpan))) → IsSomeAnd o (ArePlaces tables r.id) → option_and_then (lookup (same_fp r.fp)) o ≡ place_at tables r.id r.fp
+    step : (o : Option (List (Fp × ChunkSpan))) → IsSomeAnd o (ArePlaces tables r.id) → option_and_then (lookup (same_fp r.fp)) o ≡ span_at tables r.id r.fp
     step None i = absurd i
     step (Some places) i = i r.fp
 

@@ -11,11 +11,17 @@ use Rattle.keeper_catalog.specs.Catalog.{table_at}
 
 -- where the chunk of a row lies
 abbrev pub spot_in : List (ℕ × Table) → Row → Spot
-spot_in tables r = record { id = r.id; at = option_map_or (λ t. offset_of t.rows r.fp) (table_at tables r.id) 0; len = r.len }
+spot_in tables r =
+    record {
+      id = r.id;
+      at = option_map_or (λ t. offset_of t.rows r.fp) (table_at tables r.id) 0;
+      len = r.len;
+    }
 
 -- the table at the row's id has its fingerprint with its length
 abbrev pub HasPlace : List (ℕ × Table) → Row → Type 0
-HasPlace tables r = IsSomeAnd (table_at tables r.id) (λ t. Contains t.rows (record { fp = r.fp; len = r.len }))
+HasPlace tables r =
+    IsSomeAnd (table_at tables r.id) (λ t. Contains t.rows (record { fp = r.fp; len = r.len }))
 
 -- each table has a spelling
 abbrev pub AreRuled : List (ℕ × Table) → Type 0

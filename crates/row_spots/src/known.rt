@@ -3,7 +3,7 @@ ghost use Rattle.std.specs.Prelude.{◌≡◌, nat_eq, option_and_then, IfOk, On
 ghost use Rattle.std.specs.Map.{lookup};
 ghost use Rattle.vault_types.specs.Names.{same_fp};
 ghost use Rattle.row_spots.specs.Spots.{spot_in, HasPlace, AreRuled};
-ghost use Rattle.row_spots.specs.Offsets.{fitting_spot, ArePlaces, AreKnown};
+ghost use Rattle.row_spots.specs.Offsets.{fitting_spot, ArePlaces, AreKnownPlaces};
 
 use crate::offsets::{ChunkSpan, ChunkSpans};
 use std::alloc::Global;
@@ -29,9 +29,10 @@ fn make_known(
     id: Id,
 ) -> Result<(), Memory>
     requires rules { AreRuled tables.now.entries }
-    requires known { AreKnown tables.now.entries known.old.entries }
-    ensures there { OnOk result (IsSomeAnd (lookup (nat_eq id) known.new.entries) (ArePlaces tables.now.entries id)) }
-    ensures known { OnOk result (AreKnown tables.now.entries known.new.entries) }
+    requires known { AreKnownPlaces tables.now.entries known.old.entries }
+    ensures there { OnOk result
+        (IsSomeAnd (lookup (nat_eq id) known.new.entries) (ArePlaces tables.now.entries id)) }
+    ensures known { OnOk result (AreKnownPlaces tables.now.entries known.new.entries) }
 {
     if !known.contains_key(&id) {
         known.insert(id, places_at(alloc, tables, id)?)?;
@@ -41,7 +42,8 @@ fn make_known(
 
 // The chunk that a row names, where its table is known and has it.
 fn place_of(known: &HashMap<Id, ChunkSpans>, row: &Row) -> Option<ChunkSpan>
-    ensures { result ≡ option_and_then (lookup (same_fp row.now.fp)) (lookup (nat_eq row.now.id) known.now.entries) }
+    ensures { result
+        ≡ option_and_then (lookup (same_fp row.now.fp)) (lookup (nat_eq row.now.id) known.now.entries) }
 {
     known.get(&row.id)?.get(&row.fp)
 }
@@ -70,11 +72,11 @@ pub fn spot_of(
     row: &Row,
 ) -> Result<Option<Spot>, Memory>
     requires rules { AreRuled tables.now.entries }
-    requires known { AreKnown tables.now.entries known.old.entries }
+    requires known { AreKnownPlaces tables.now.entries known.old.entries }
     ensures spot { IfOk result (λ spot. IfSome spot (λ s. s ≡ spot_in tables.now.entries row.now)) }
     ensures placed { IfOk result (λ spot. IfSome spot (λ _. HasPlace tables.now.entries row.now)) }
     ensures absent { IfOk result (λ spot. IfNone spot (HasPlace tables.now.entries row.now → ⊥)) }
-    ensures known { OnOk result (AreKnown tables.now.entries known.new.entries) }
+    ensures known { OnOk result (AreKnownPlaces tables.now.entries known.new.entries) }
 {
     make_known(alloc, tables, known, row.id)?;
     Ok(fitting(place_of(known, row), row))

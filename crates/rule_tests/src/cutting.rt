@@ -4,13 +4,14 @@ use chunk_fixed::Fixed;
 use segmenter::{Cut, Segmenter};
 use std::alloc::Global;
 use std::test::Fail;
+use vault_types::Memory;
 
 fn are(chunks: &[Vec<u8>], expected: &[&[u8]]) -> bool {
     if chunks.len() != expected.len() {
         return false;
     }
-    for (chunk, bytes) in chunks.iter().zip(expected) {
-        if chunk.as_slice() != *bytes {
+    for place in 0..chunks.len() {
+        if chunks[place].as_slice() != expected[place] {
             return false;
         }
     }
@@ -49,28 +50,33 @@ fn an_empty_stream_has_no_chunk(rt: HostRuntime) -> Result<(), Fail> {
     Ok(())
 }
 
-// The lengths of the chunks of `count` equal bytes, fed in pieces of `piece` bytes.
-fn lengths(
+// The chunks of these bytes, fed in pieces of `piece` bytes.
+fn chunks_of(
     alloc: Global,
     mut chunker: Ae,
-    byte: u8,
-    count: usize,
+    bytes: &[u8],
     piece: usize,
-) -> Result<Vec<usize>, Fail> {
-    if piece < 1 {
-        return Err(Fail::from("empty pieces"));
-    }
-    let bytes = vec![in alloc; byte; count]?;
+) -> Result<Vec<Vec<u8>>, Memory> {
     let mut chunks = Vec::new(alloc);
-    for part in bytes.as_slice().chunks(piece) {
+    for part in bytes.chunks(piece.max(1)) {
         chunker.feed(alloc, part, &mut chunks)?;
     }
     chunker.finish(&mut chunks)?;
+    Ok(chunks)
+}
+
+fn lens_of(alloc: Global, chunks: &[Vec<u8>]) -> Result<Vec<usize>, Memory> {
     let mut found = Vec::new(alloc);
-    for chunk in &chunks {
+    for chunk in chunks {
         found.push(chunk.len())?;
     }
     Ok(found)
+}
+
+// The lengths of the chunks of twenty equal bytes, fed in pieces of `piece` bytes.
+fn lengths(alloc: Global, chunker: Ae, byte: u8, piece: usize) -> Result<Vec<usize>, Memory> {
+    let chunks = chunks_of(alloc, chunker, &[byte; 20], piece)?;
+    lens_of(alloc, chunks.as_slice())
 }
 
 // Twenty equal bytes, and the lengths of their chunks where a window of 4 and this greatest length cut them.
@@ -103,7 +109,7 @@ fn equals_are(alloc: Global, rows: &[Equal], piece: usize) -> Result<bool, Fail>
         if row.max <= 4 || row.max > 65_536 {
             return Err(Fail::from("greatest length"));
         }
-        let found = lengths(alloc, Ae::new(4, row.max), row.byte, 20, piece)?;
+        let found = lengths(alloc, Ae::new(4, row.max), row.byte, piece)?;
         if found.as_slice() != row.lengths {
             return Ok(false);
         }

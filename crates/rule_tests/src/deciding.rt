@@ -67,8 +67,8 @@ fn are(decided: &[Decided], hows: &[How]) -> bool {
     if decided.len() != hows.len() {
         return false;
     }
-    for (one, how) in decided.iter().zip(hows) {
-        if one.how != *how {
+    for place in 0..decided.len() {
+        if decided[place].how != hows[place] {
             return false;
         }
     }

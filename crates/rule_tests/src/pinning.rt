@@ -1,12 +1,13 @@
 //! Pins that list the same container.
-use restore_pins::Pins;
+use restore_pins::{PinNo, Pins};
 use std::alloc::Global;
 use std::test::Fail;
 use vault_types::{Id, Memory};
 
 // Whether each of these containers is held.
 fn held(pins: &Pins, ids: [Id; 3]) -> [bool; 3] {
-    ids.map(|id| pins.holds(id))
+    let [first, second, third] = ids;
+    [pins.holds(first), pins.holds(second), pins.holds(third)]
 }
 
 type Held = [bool; 3];
@@ -35,6 +36,12 @@ fn a_container_is_held_until_its_last_pin_goes(rt: HostRuntime) -> Result<(), Fa
     Ok(())
 }
 
+// Whether a pin of nothing, and this one, list 5.
+fn list_five(alloc: Global, pins: &mut Pins, first: &PinNo) -> Result<(bool, bool), Memory> {
+    let none = pins.pin(alloc, 3, Vec::new(alloc))?;
+    Ok((pins.lists(&none, 5), pins.lists(first, 5)))
+}
+
 // Of two pins where the later goes first: its list, what is held then, and whether a third pin, of nothing, and the first
 // list 5.
 fn later_first(alloc: Global) -> Result<(Vec<Id>, Held, (bool, bool)), Memory> {
@@ -43,8 +50,7 @@ fn later_first(alloc: Global) -> Result<(Vec<Id>, Held, (bool, bool)), Memory> {
     let second = pins.pin(alloc, 1, [5, 5, 7].to_vec(alloc)?)?;
     let ids = pins.release(second);
     let left = held(&pins, [5, 7, 9]);
-    let none = pins.pin(alloc, 3, Vec::new(alloc))?;
-    let lists = (pins.lists(&none, 5), pins.lists(&first, 5));
+    let lists = list_five(alloc, &mut pins, &first)?;
     Ok((ids, left, lists))
 }
 

@@ -14,27 +14,65 @@ fn committed(alloc: Global, commits: &[(Set, Version, &[Id])]) -> Result<SetMark
     Ok(markers)
 }
 
-// Whether a floor of a set takes these ids, and they are appended to what is there.
-fn takes(
-    alloc: Global,
-    markers: &mut SetMarkers,
-    floor: (Set, Version),
-    before: &[Id],
-    after: &[Id],
-) -> Result<bool, Memory> {
-    let mut out = before.to_vec(alloc)?;
+// A floor of a set; what is in the list already, and what is in it behind the floor; how many containers are named then,
+// and whether 1 and 2 are.
+struct Floor {
+    set: Set,
+    version: Version,
+    before: &'static [Id],
+    after: &'static [Id],
+    named: (usize, [bool; 2]),
+}
+
+fn takes(alloc: Global, markers: &mut SetMarkers, floor: &Floor) -> Result<bool, Memory> {
+    let mut out = floor.before.to_vec(alloc)?;
     out.reserve(markers.count())?;
-    markers.take_below(floor.0, floor.1, &mut out);
-    Ok(out.as_slice() == after)
+    markers.take_below(floor.set, floor.version, &mut out);
+    Ok(out.as_slice() == floor.after)
 }
 
-fn names(markers: &SetMarkers, id: Id) -> bool {
-    markers.named(id)
+// How many containers are named, and whether 1 and 2 are.
+fn named(markers: &SetMarkers) -> (usize, [bool; 2]) {
+    (markers.count(), [markers.named(1), markers.named(2)])
 }
 
-fn names_so_many(markers: &SetMarkers, count: usize) -> bool {
-    markers.count() == count
+// Whether each floor takes these ids, they are appended to what is there, and those are named then.
+fn take_each(alloc: Global, markers: &mut SetMarkers, floors: &[Floor]) -> Result<bool, Memory> {
+    for floor in floors {
+        if !takes(alloc, markers, floor)? || named(markers) != floor.named {
+            return Ok(false);
+        }
+    }
+    Ok(true)
 }
+
+// How many containers are named at first, and whether the floors do as they say.
+fn floors_take(
+    alloc: Global,
+    commits: &[(Set, Version, &[Id])],
+    floors: &[Floor],
+) -> Result<(usize, bool), Memory> {
+    let mut markers = committed(alloc, commits)?;
+    let count = markers.count();
+    Ok((count, take_each(alloc, &mut markers, floors)?))
+}
+
+const OF_TWO_SETS: &[Floor] = &[
+    Floor {
+        set: 0,
+        version: 2,
+        before: &[],
+        after: &[],
+        named: (4, [true, true]),
+    },
+    Floor {
+        set: 1,
+        version: 2,
+        before: &[],
+        after: &[1],
+        named: (3, [false, true]),
+    },
+];
 
 #[test]
 fn a_container_stays_while_another_set_names_it(rt: HostRuntime) -> Result<(), Fail> {
@@ -44,44 +82,76 @@ fn a_container_stays_while_another_set_names_it(rt: HostRuntime) -> Result<(), F
         (0, 2, &[2, 3]),
         (1, 2, &[4]),
     ];
-    let mut markers = committed(rt.alloc(), &commits)?;
-    assert!(rt; names_so_many(&markers, 4) && takes(rt.alloc(), &mut markers, (0, 2), &[], &[])?);
-    assert!(rt; names(&markers, 1) && names_so_many(&markers, 4));
-    assert!(rt; takes(rt.alloc(), &mut markers, (1, 2), &[], &[1])?);
-    assert!(rt; !names(&markers, 1) && names(&markers, 2) && names_so_many(&markers, 3));
+    assert!(rt; floors_take(rt.alloc(), &commits, OF_TWO_SETS)? == (4, true));
     Ok(())
 }
+
+const OF_THE_LAST_SET: &[Floor] = &[
+    Floor {
+        set: 255,
+        version: 2,
+        before: &[],
+        after: &[1],
+        named: (2, [false, true]),
+    },
+    Floor {
+        set: 254,
+        version: 9,
+        before: &[],
+        after: &[],
+        named: (2, [false, true]),
+    },
+];
 
 #[test]
 fn one_set_is_a_dataset_of_its_own(rt: HostRuntime) -> Result<(), Fail> {
-    let mut markers = committed(rt.alloc(), &[(255, 1, &[1, 2]), (255, 2, &[2, 3])])?;
-    assert!(rt; takes(rt.alloc(), &mut markers, (255, 2), &[], &[1])?);
-    assert!(rt; takes(rt.alloc(), &mut markers, (254, 9), &[], &[])?);
-    assert!(rt; names(&markers, 2) && !names(&markers, 1));
+    let commits: [(Set, Version, &[Id]); 2] = [(255, 1, &[1, 2]), (255, 2, &[2, 3])];
+    assert!(rt; floors_take(rt.alloc(), &commits, OF_THE_LAST_SET)? == (3, true));
     Ok(())
 }
+
+const ASCENDING: &[Floor] = &[
+    Floor {
+        set: 3,
+        version: 8,
+        before: &[99],
+        after: &[99, 8, 31, 50],
+        named: (2, [false, false]),
+    },
+    Floor {
+        set: 4,
+        version: 2,
+        before: &[],
+        after: &[20, 60],
+        named: (0, [false, false]),
+    },
+];
 
 #[test]
 fn ids_are_appended_in_ascending_order(rt: HostRuntime) -> Result<(), Fail> {
-    let mut markers = committed(
-        rt.alloc(),
-        &[(3, 7, &[50, 8, 20, 8, 31]), (4, 1, &[20, 60])],
-    )?;
-    assert!(rt; takes(rt.alloc(), &mut markers, (3, 8), &[99], &[99, 8, 31, 50])?);
-    assert!(rt; takes(rt.alloc(), &mut markers, (4, 2), &[], &[20, 60])?);
-    assert!(rt; names_so_many(&markers, 0));
+    let commits: [(Set, Version, &[Id]); 2] = [(3, 7, &[50, 8, 20, 8, 31]), (4, 1, &[20, 60])];
+    assert!(rt; floors_take(rt.alloc(), &commits, ASCENDING)? == (5, true));
     Ok(())
 }
 
-fn has_no_room(markers: &mut SetMarkers) -> bool {
-    markers.reserve(usize::MAX) == Err(Memory)
+const WITHOUT_ROOM: Floor = Floor {
+    set: 0,
+    version: 2,
+    before: &[],
+    after: &[5, 6],
+    named: (0, [false, false]),
+};
+
+// Whether there is no room for so many, and a floor takes then what it would.
+fn without_room(alloc: Global) -> Result<(bool, bool), Memory> {
+    let mut markers = committed(alloc, &[(0, 1, &[5, 6])])?;
+    let has_none = markers.reserve(usize::MAX) == Err(Memory);
+    Ok((has_none, takes(alloc, &mut markers, &WITHOUT_ROOM)?))
 }
 
 #[test]
 fn want_of_memory_changes_nothing(rt: HostRuntime) -> Result<(), Fail> {
-    let mut markers = committed(rt.alloc(), &[(0, 1, &[5, 6])])?;
-    assert!(rt; has_no_room(&mut markers));
-    assert!(rt; takes(rt.alloc(), &mut markers, (0, 2), &[], &[5, 6])?);
+    assert!(rt; without_room(rt.alloc())? == (true, true));
     Ok(())
 }
 
@@ -105,19 +175,28 @@ fn taken(
     Ok((out.len(), out.as_slice().is_sorted()))
 }
 
-#[test]
-fn many_containers_of_four_sets(rt: HostRuntime) -> Result<(), Fail> {
-    let alloc = rt.alloc();
+fn of_four_sets(alloc: Global) -> Result<SetMarkers, Memory> {
     let ids = many_ids(alloc)?;
     let all = ids.as_slice();
-    let mut markers = committed(alloc, &[(0, 1, all), (1, 1, all), (2, 1, all), (3, 1, all)])?;
-    assert!(rt; names_so_many(&markers, 50_000));
-    for set in 0..3u8 {
-        assert!(rt;
-            taken(alloc, &mut markers, set, 2)? == (0, true),
-            "set {set}"
-        );
+    committed(alloc, &[(0, 1, all), (1, 1, all), (2, 1, all), (3, 1, all)])
+}
+
+// How many containers are named, and what a floor of each set takes in turn.
+fn many(alloc: Global) -> Result<(usize, Vec<(usize, bool)>), Memory> {
+    let mut markers = of_four_sets(alloc)?;
+    let count = markers.count();
+    let mut each = Vec::new(alloc);
+    for set in 0..4u8 {
+        each.push(taken(alloc, &mut markers, set, 2)?)?;
     }
-    assert!(rt; taken(alloc, &mut markers, 3, 2)? == (50_000, true));
+    Ok((count, each))
+}
+
+#[test]
+fn many_containers_of_four_sets(rt: HostRuntime) -> Result<(), Fail> {
+    let (count, each) = many(rt.alloc())?;
+    let expected = [(0, true), (0, true), (0, true), (50_000, true)];
+    assert!(rt; count == 50_000);
+    assert!(rt; each.as_slice() == expected.as_slice());
     Ok(())
 }

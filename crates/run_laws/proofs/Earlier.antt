@@ -7,7 +7,7 @@ use Rattle.vault_types.specs.declared.Line.{Line}
 use Rattle.vault_types.specs.State.{State}
 use Rattle.vault_types.specs.Script.{Sources}
 use Rattle.vault_traits.specs.Told.{ShelfTold, PlacesTold}
-use Rattle.store_model.specs.Causes.{Counts, CausesRise, HasCauses, counts_over}
+use Rattle.store_model.specs.Causes.{Counts, CausesRise, AnswersHaveCauses, counts_over}
 use Rattle.store_model.specs.Complete.{IsComplete}
 use Rattle.store_model.specs.Script.{RunsLines, MeansScript}
 use Rattle.script_laws.proofs.Following.{stay_more}
@@ -21,7 +21,7 @@ with_store c n = record { store = n; place = c.place; read = c.read; write = c.w
 pub causes_earlier : (old new : Counts) (n : ℕ) (answers : List Answer) → n ≤ old.store → CausesRise old new answers → CausesRise (with_store old n) new answers
 causes_earlier old new n answers later c = record { store = rise_lower n old.store new.store _ later c.store; place = c.place; read = c.read; write = c.write }
 
-pub some_earlier : (old new : Counts) (n : ℕ) (lines : List Line) (answers : List Answer) → n ≤ old.store → HasCauses old new lines answers → HasCauses (with_store old n) new lines answers
+pub some_earlier : (old new : Counts) (n : ℕ) (lines : List Line) (answers : List Answer) → n ≤ old.store → AnswersHaveCauses old new lines answers → AnswersHaveCauses (with_store old n) new lines answers
 some_earlier old new n lines answers later c = record {
   store = (c.store.0, c.store.1, rise_lower n old.store new.store c.store.0 later c.store.2);
   place = c.place;

@@ -16,8 +16,12 @@ use script_laws::StateKeeper;
 /// A call behind an opening that puts recipes again is the run of `migrate`, where what is known as strays behind the
 /// opening are strays of its blobs.
 pub fn migrations_are_runs<K: StateKeeper>()
-    ensures { (before now : World) (k k' : K) (result : Result Answer Fault) (f : Option Fault) → IsSameBut before.shelf (K.shelf k) → now.shelf ≡ K.shelf k'
+    ensures { (before now : World) (k k' : K) (result : Result Answer Fault) (f : Option Fault)
+        → IsSameBut before.shelf (K.shelf k) → now.shelf ≡ K.shelf k'
         → ((S : State) → Begins before.shelf S → (n : Name) → K.strays k n → StraysOf before.shelf S n)
-        → ((S : State) → Begins before.shelf S → K.keeps k S None) → MigratesStore (K.keeps k) (K.keeps k') (K.strays k) (K.strays k') (K.shelf k) (K.shelf k') result
-        → IsPrinted (report_text (answer_of result ∷ [])) before.out now.out f → now.report ≡ before.report → now.input ≡ before.input → now.places ≡ before.places → RunsMigrate before now (answer_of result ∷ []) f }
+        → ((S : State) → Begins before.shelf S → K.keeps k S None)
+        → MigratesStore (K.keeps k) (K.keeps k') (K.strays k) (K.strays k') (K.shelf k) (K.shelf k') result
+        → IsPrinted (report_text (answer_of result ∷ [])) before.out now.out f → now.report ≡ before.report
+        → now.input ≡ before.input → now.places ≡ before.places
+        → RunsMigrate before now (answer_of result ∷ []) f }
 {}

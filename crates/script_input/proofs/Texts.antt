@@ -8,10 +8,10 @@ use Rattle.vault_types.specs.declared.Line.{Line}
 use Rattle.vault_types.specs.declared.Fault.{Fault}
 use Rattle.vault_types.specs.declared.Fault.TheVariants as fault
 use Rattle.vault_types.specs.Words.{script_of}
-use Rattle.vault_traits.specs.Told.{SourceTold, Gives}
+use Rattle.vault_traits.specs.Told.{SourceTold, Gives, IsAtEnd}
 use Rattle.store_model.specs.Calls.{GivesAtMost}
 use Rattle.store_model.specs.Early.{IsScript, IsScriptFault}
-use Rattle.script_input.specs.Reading.{HasGiven, IsAtEnd, IsTextFault}
+use Rattle.script_input.specs.Reading.{HasGiven, IsTextFault}
 
 gives_nothing : (left : Option (List ℕ)) → Gives left left []
 gives_nothing None = refl

@@ -10,13 +10,10 @@ pub record HasGiven (from to : SourceTold) (text : List ℕ) : Type 0 where
   pub given : Gives from.left to.left text
   pub later : from.faults ≤ to.faults
 
--- nothing is left
-abbrev pub IsAtEnd : SourceTold → Type 0
-IsAtEnd to = IfSome to.left (λ rest. rest ≡ [])
-
 -- no memory, the source failed, or it has more than so many bytes
 abbrev pub IsTextFault : ℕ → SourceTold → SourceTold → Fault → Type 0
 IsTextFault limit from to fault.Memory = Unit {0}
 IsTextFault limit from to (fault.ReadFault n) = Rose from.faults n × (n ≤ to.faults)
-IsTextFault limit from to (fault.ScriptTooLong most) = (most ≡ limit) × IfSome from.left (λ text. limit < length text)
+IsTextFault limit from to (fault.ScriptTooLong most) =
+    (most ≡ limit) × IfSome from.left (λ text. limit < length text)
 IsTextFault limit from to other = ⊥

@@ -7,7 +7,8 @@ ghost use Rattle.store_model.specs.Calls.{GivesAtMost};
 ghost use Rattle.store_model.specs.Outputs.{AreApartLines};
 ghost use Rattle.store_model.specs.Early.{IsScript, IsScriptFault};
 ghost use Rattle.store_model.specs.Ranges.{AreLimits, IsLineInRange};
-ghost use Rattle.script_input.specs.Reading.{IsTextFault, HasGiven, IsAtEnd};
+ghost use Rattle.vault_traits.specs.Told.{IsAtEnd};
+ghost use Rattle.script_input.specs.Reading.{IsTextFault, HasGiven};
 
 use script_words::read_script;
 use std::alloc::Global;
@@ -17,7 +18,9 @@ use vault_types::{Fault, Limits, Line};
 // Takes the next piece, of at most so many bytes, to the end of the text, and says how many there were. None is the end.
 fn read_piece<I: Source>(input: &mut I, most: usize, text: &mut Vec<u8>) -> Result<usize, Fault>
     requires { 1 ≤ most }
-    ensures ok { IfOk result (λ n. (piece : List ℕ) × (text.new.items ≡ text.old.items ++ piece) × (length piece ≡ n) × (n ≤ most) × HasGiven (I.told input.old) (I.told input.new) piece × (n ≡ 0 → IsAtEnd (I.told input.new))) }
+    ensures ok { IfOk result (λ n. (piece : List ℕ) × (text.new.items ≡ text.old.items ++ piece)
+        × (length piece ≡ n) × (n ≤ most) × HasGiven (I.told input.old) (I.told input.new) piece
+        × (n ≡ 0 → IsAtEnd (I.told input.new))) }
     ensures err { (limit : ℕ) → IfErr result (IsTextFault limit (I.told input.old) (I.told input.new)) }
     ensures bound { GivesAtMost most (I.told input.old) (I.told input.new) }
 {
@@ -35,7 +38,8 @@ fn read_piece<I: Source>(input: &mut I, most: usize, text: &mut Vec<u8>) -> Resu
 // Reads to the end, or to one byte past the limit.
 fn read_text<I: Source>(alloc: Global, input: &mut I, limit: u32) -> Result<Vec<u8>, Fault>
     requires { limit ≤ 1048576 }
-    ensures ok { IfOk result (λ text. HasGiven (I.told input.old) (I.told input.new) text.items × (length text.items ≤ limit) × IsAtEnd (I.told input.new)) }
+    ensures ok { IfOk result (λ text. HasGiven (I.told input.old) (I.told input.new) text.items
+        × (length text.items ≤ limit) × IsAtEnd (I.told input.new)) }
     ensures err { IfErr result (IsTextFault limit (I.told input.old) (I.told input.new)) }
     ensures bound { GivesAtMost (limit + 1) (I.told input.old) (I.told input.new) }
 {

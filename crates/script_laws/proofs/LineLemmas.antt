@@ -138,48 +138,16 @@ may_backup limits S s name config (Refused f) h = same f h
   where
     same : (f : Fault) → MayBeAnswer limits S (Backup s [] config) (Refused f) → MayBeAnswer limits S (Backup s name config) (Refused f)
     same fault.Usage h = h
-    same (fault.NotKept a b c d) h = h
-    same (fault.ReadFault n) h = h
-    same (fault.WriteFault n) h = h
-    same (fault.StoreFault n) h = h
-    same (fault.Damaged a b c) h = h
-    same fault.Memory h = h
-    same (fault.TooMany n) h = h
-    same (fault.LastVersion a b c) h = h
-    same (fault.PlaceFault n) h = h
-    same (fault.BadLine n) h = h
-    same (fault.ScriptTooLong n) h = h
-    same (fault.Full a b c) h = h
-may_backup limits S s name config (Stored a b c d e f g) h = h
-may_backup limits S s name config (Restored a b c d) h = h
-may_backup limits S s name config (Removed a b c d) h = h
-may_backup limits S s name config (Shown a b c) h = h
-may_backup limits S s name config (Migrated a) h = h
-may_backup limits S s name config (Scrubbed a b) h = h
+    same f h = h
+may_backup limits S s name config a h = h
 
 may_restore : (limits : Limits) (S : State) (s v : ℕ) (name : List ℕ) (cache : ℕ) (a : Answer) → MayBeAnswer limits S (Restore s v [] cache) a → MayBeAnswer limits S (Restore s v name cache) a
 may_restore limits S s v name cache (Refused f) h = same f h
   where
     same : (f : Fault) → MayBeAnswer limits S (Restore s v [] cache) (Refused f) → MayBeAnswer limits S (Restore s v name cache) (Refused f)
     same fault.Usage h = h
-    same (fault.NotKept a b c d) h = h
-    same (fault.ReadFault n) h = h
-    same (fault.WriteFault n) h = h
-    same (fault.StoreFault n) h = h
-    same (fault.Damaged a b c) h = h
-    same fault.Memory h = h
-    same (fault.TooMany n) h = h
-    same (fault.LastVersion a b c) h = h
-    same (fault.PlaceFault n) h = h
-    same (fault.BadLine n) h = h
-    same (fault.ScriptTooLong n) h = h
-    same (fault.Full a b c) h = h
-may_restore limits S s v name cache (Stored a b c d e f g) h = h
-may_restore limits S s v name cache (Restored a b c d) h = h
-may_restore limits S s v name cache (Removed a b c d) h = h
-may_restore limits S s v name cache (Shown a b c) h = h
-may_restore limits S s v name cache (Migrated a) h = h
-may_restore limits S s v name cache (Scrubbed a b) h = h
+    same f h = h
+may_restore limits S s v name cache a h = h
 
 pub as_backup : (limits : Limits) (sources : Sources) (S : State) (other next : Option Change) (s : ℕ) (name : List ℕ) (config : JobConfig) (answer : Answer) (Known Behind : Name → Type 0) (old new : ShelfTold)
     → StepsOn limits (λ _. sources name) S other (Backup s [] config) answer next Known Behind old new → StepsOn limits sources S other (Backup s name config) answer next Known Behind old new
@@ -257,18 +225,7 @@ read_steps limits sources S other next s name config f m Known Behind old new st
 
 pub read_kind : (limits : Limits) (s : ℕ) (name : List ℕ) (config : JobConfig) (f : Fault) (m : ℕ) → IsTrue (fits limits (Backup s [] config) (Refused f)) → IsTrue (fits limits (Backup s name config) (Refused (read_numbered m f)))
 read_kind limits s name config (fault.ReadFault n) m h = refl
-read_kind limits s name config (fault.Usage) m h = h
-read_kind limits s name config (fault.NotKept a b c d) m h = h
-read_kind limits s name config (fault.WriteFault n) m h = h
-read_kind limits s name config (fault.StoreFault n) m h = h
-read_kind limits s name config (fault.Damaged a b c) m h = h
-read_kind limits s name config fault.Memory m h = h
-read_kind limits s name config (fault.TooMany n) m h = h
-read_kind limits s name config (fault.LastVersion a b c) m h = h
-read_kind limits s name config (fault.PlaceFault n) m h = h
-read_kind limits s name config (fault.BadLine n) m h = h
-read_kind limits s name config (fault.ScriptTooLong n) m h = h
-read_kind limits s name config (fault.Full a b c) m h = h
+read_kind limits s name config f m h = h
 
 -- ---- counts
 
@@ -306,51 +263,19 @@ causes_source a s0 s1 p0 p1 r0 r1 w0 w1 k c le wle is none = record {
 pub causes_read : (f : Fault) (s0 s1 p0 p1 r0 r1 w0 w1 k : ℕ) → CausesRise (record { store = s0; place = 0; read = 0; write = 0 }) (record { store = s1; place = 0; read = k; write = 0 }) (Refused f ∷ [])
     → p0 ≤ p1 → w0 ≤ w1 → r1 ≡ added r0 k → CausesRise (record { store = s0; place = p0; read = r0; write = w0 }) (record { store = s1; place = p1; read = r1; write = w1 }) (Refused (read_numbered r1 f) ∷ [])
 causes_read (fault.ReadFault n) s0 s1 p0 p1 r0 r1 w0 w1 k c le wle is = record { store = c.store; place = le; read = (omega (arith, c.read.0, c.read.1), omega arith); write = wle }
-causes_read fault.Usage s0 s1 p0 p1 r0 r1 w0 w1 k c le wle is = causes_source _ s0 s1 p0 p1 r0 r1 w0 w1 k c le wle is refl
-causes_read (fault.NotKept x y z u) s0 s1 p0 p1 r0 r1 w0 w1 k c le wle is = causes_source _ s0 s1 p0 p1 r0 r1 w0 w1 k c le wle is refl
-causes_read (fault.WriteFault n) s0 s1 p0 p1 r0 r1 w0 w1 k c le wle is = causes_source _ s0 s1 p0 p1 r0 r1 w0 w1 k c le wle is refl
-causes_read (fault.StoreFault n) s0 s1 p0 p1 r0 r1 w0 w1 k c le wle is = causes_source _ s0 s1 p0 p1 r0 r1 w0 w1 k c le wle is refl
-causes_read (fault.Damaged x y z) s0 s1 p0 p1 r0 r1 w0 w1 k c le wle is = causes_source _ s0 s1 p0 p1 r0 r1 w0 w1 k c le wle is refl
-causes_read fault.Memory s0 s1 p0 p1 r0 r1 w0 w1 k c le wle is = causes_source _ s0 s1 p0 p1 r0 r1 w0 w1 k c le wle is refl
-causes_read (fault.TooMany n) s0 s1 p0 p1 r0 r1 w0 w1 k c le wle is = causes_source _ s0 s1 p0 p1 r0 r1 w0 w1 k c le wle is refl
-causes_read (fault.LastVersion x y z) s0 s1 p0 p1 r0 r1 w0 w1 k c le wle is = causes_source _ s0 s1 p0 p1 r0 r1 w0 w1 k c le wle is refl
-causes_read (fault.PlaceFault n) s0 s1 p0 p1 r0 r1 w0 w1 k c le wle is = causes_source _ s0 s1 p0 p1 r0 r1 w0 w1 k c le wle is refl
-causes_read (fault.BadLine n) s0 s1 p0 p1 r0 r1 w0 w1 k c le wle is = causes_source _ s0 s1 p0 p1 r0 r1 w0 w1 k c le wle is refl
-causes_read (fault.ScriptTooLong n) s0 s1 p0 p1 r0 r1 w0 w1 k c le wle is = causes_source _ s0 s1 p0 p1 r0 r1 w0 w1 k c le wle is refl
-causes_read (fault.Full x y z) s0 s1 p0 p1 r0 r1 w0 w1 k c le wle is = causes_source _ s0 s1 p0 p1 r0 r1 w0 w1 k c le wle is refl
+causes_read f s0 s1 p0 p1 r0 r1 w0 w1 k c le wle is = causes_source _ s0 s1 p0 p1 r0 r1 w0 w1 k c le wle is refl
 
 pub done_no_read : (a : Answer) → is_refused a ≡ false → read_number a ≡ None
 done_no_read (Refused f) e = cc
-done_no_read (Stored a b c d e f g) h = refl
-done_no_read (Restored a b c d) h = refl
-done_no_read (Removed a b c d) h = refl
-done_no_read (Shown a b c) h = refl
-done_no_read (Migrated a) h = refl
-done_no_read (Scrubbed a b) h = refl
+done_no_read a h = refl
 
 pub kind_backup : (limits : Limits) (s : ℕ) (name : List ℕ) (config : JobConfig) (a : Answer) → IsTrue (fits limits (Backup s [] config) a) → IsTrue (fits limits (Backup s name config) a)
 kind_backup limits s name config (Refused f) h = read_same f h
   where
     read_same : (f : Fault) → IsTrue (fits limits (Backup s [] config) (Refused f)) → IsTrue (fits limits (Backup s name config) (Refused f))
     read_same fault.Usage h = h
-    read_same (fault.NotKept a b c d) h = h
-    read_same (fault.ReadFault n) h = h
-    read_same (fault.WriteFault n) h = h
-    read_same (fault.StoreFault n) h = h
-    read_same (fault.Damaged a b c) h = h
-    read_same fault.Memory h = h
-    read_same (fault.TooMany n) h = h
-    read_same (fault.LastVersion a b c) h = h
-    read_same (fault.PlaceFault n) h = h
-    read_same (fault.BadLine n) h = h
-    read_same (fault.ScriptTooLong n) h = h
-    read_same (fault.Full a b c) h = h
-kind_backup limits s name config (Stored a b c d e f g) h = h
-kind_backup limits s name config (Restored a b c d) h = h
-kind_backup limits s name config (Removed a b c d) h = h
-kind_backup limits s name config (Shown a b c) h = h
-kind_backup limits s name config (Migrated a) h = h
-kind_backup limits s name config (Scrubbed a b) h = h
+    read_same f h = h
+kind_backup limits s name config a h = h
 
 -- ---- files that are kept
 
@@ -384,42 +309,12 @@ kind_restore limits s v name cache (Refused f) h = same f h
   where
     same : (f : Fault) → IsTrue (fits limits (Restore s v [] cache) (Refused f)) → IsTrue (fits limits (Restore s v name cache) (Refused f))
     same fault.Usage h = h
-    same (fault.NotKept a b c d) h = h
-    same (fault.ReadFault n) h = h
-    same (fault.WriteFault n) h = h
-    same (fault.StoreFault n) h = h
-    same (fault.Damaged kind.Table b c) h = h
-    same (fault.Damaged kind.Payload b c) h = h
-    same (fault.Damaged kind.Recipe b c) h = h
-    same (fault.Damaged kind.Floor b c) h = h
-    same fault.Memory h = h
-    same (fault.TooMany n) h = h
-    same (fault.LastVersion a b c) h = h
-    same (fault.PlaceFault n) h = h
-    same (fault.BadLine n) h = h
-    same (fault.ScriptTooLong n) h = h
-    same (fault.Full a b c) h = h
-kind_restore limits s v name cache (Stored a b c d e f g) h = h
-kind_restore limits s v name cache (Restored a b c d) h = h
-kind_restore limits s v name cache (Removed a b c d) h = h
-kind_restore limits s v name cache (Shown a b c) h = h
-kind_restore limits s v name cache (Migrated a) h = h
-kind_restore limits s v name cache (Scrubbed a b) h = h
+    same f h = h
+kind_restore limits s v name cache a h = h
 
 pub write_kind : (limits : Limits) (s v : ℕ) (name : List ℕ) (cache : ℕ) (f : Fault) (m : ℕ) → IsTrue (fits limits (Restore s v name cache) (Refused f)) → IsTrue (fits limits (Restore s v name cache) (Refused (write_numbered m f)))
 write_kind limits s v name cache (fault.WriteFault n) m h = refl
-write_kind limits s v name cache fault.Usage m h = h
-write_kind limits s v name cache (fault.NotKept a b c d) m h = h
-write_kind limits s v name cache (fault.ReadFault n) m h = h
-write_kind limits s v name cache (fault.StoreFault n) m h = h
-write_kind limits s v name cache (fault.Damaged a b c) m h = h
-write_kind limits s v name cache fault.Memory m h = h
-write_kind limits s v name cache (fault.TooMany n) m h = h
-write_kind limits s v name cache (fault.LastVersion a b c) m h = h
-write_kind limits s v name cache (fault.PlaceFault n) m h = h
-write_kind limits s v name cache (fault.BadLine n) m h = h
-write_kind limits s v name cache (fault.ScriptTooLong n) m h = h
-write_kind limits s v name cache (fault.Full a b c) m h = h
+write_kind limits s v name cache f m h = h
 
 renumber_write_exact : (limits : Limits) (S : State) (s v : ℕ) (name : List ℕ) (cache n m : ℕ) → IsExact limits S (Restore s v name cache) (Refused (fault.WriteFault n)) → IsExact limits S (Restore s v name cache) (Refused (fault.WriteFault m))
 renumber_write_exact limits S s v name cache n m h = by (is_kept S s v) h
@@ -456,27 +351,11 @@ causes_sink a s0 s1 p0 p1 r0 r1 w0 w1 k c le rle is none = record {
 pub causes_write : (f : Fault) (s0 s1 p0 p1 r0 r1 w0 w1 k : ℕ) → CausesRise (record { store = s0; place = 0; read = 0; write = 0 }) (record { store = s1; place = 0; read = 0; write = k }) (Refused f ∷ [])
     → p0 ≤ p1 → r0 ≤ r1 → w1 ≡ added w0 k → CausesRise (record { store = s0; place = p0; read = r0; write = w0 }) (record { store = s1; place = p1; read = r1; write = w1 }) (Refused (write_numbered w1 f) ∷ [])
 causes_write (fault.WriteFault n) s0 s1 p0 p1 r0 r1 w0 w1 k c le rle is = record { store = c.store; place = le; read = rle; write = (omega (arith, c.write.0, c.write.1), omega arith) }
-causes_write fault.Usage s0 s1 p0 p1 r0 r1 w0 w1 k c le rle is = causes_sink _ s0 s1 p0 p1 r0 r1 w0 w1 k c le rle is refl
-causes_write (fault.NotKept x y z u) s0 s1 p0 p1 r0 r1 w0 w1 k c le rle is = causes_sink _ s0 s1 p0 p1 r0 r1 w0 w1 k c le rle is refl
-causes_write (fault.ReadFault n) s0 s1 p0 p1 r0 r1 w0 w1 k c le rle is = causes_sink _ s0 s1 p0 p1 r0 r1 w0 w1 k c le rle is refl
-causes_write (fault.StoreFault n) s0 s1 p0 p1 r0 r1 w0 w1 k c le rle is = causes_sink _ s0 s1 p0 p1 r0 r1 w0 w1 k c le rle is refl
-causes_write (fault.Damaged x y z) s0 s1 p0 p1 r0 r1 w0 w1 k c le rle is = causes_sink _ s0 s1 p0 p1 r0 r1 w0 w1 k c le rle is refl
-causes_write fault.Memory s0 s1 p0 p1 r0 r1 w0 w1 k c le rle is = causes_sink _ s0 s1 p0 p1 r0 r1 w0 w1 k c le rle is refl
-causes_write (fault.TooMany n) s0 s1 p0 p1 r0 r1 w0 w1 k c le rle is = causes_sink _ s0 s1 p0 p1 r0 r1 w0 w1 k c le rle is refl
-causes_write (fault.LastVersion x y z) s0 s1 p0 p1 r0 r1 w0 w1 k c le rle is = causes_sink _ s0 s1 p0 p1 r0 r1 w0 w1 k c le rle is refl
-causes_write (fault.PlaceFault n) s0 s1 p0 p1 r0 r1 w0 w1 k c le rle is = causes_sink _ s0 s1 p0 p1 r0 r1 w0 w1 k c le rle is refl
-causes_write (fault.BadLine n) s0 s1 p0 p1 r0 r1 w0 w1 k c le rle is = causes_sink _ s0 s1 p0 p1 r0 r1 w0 w1 k c le rle is refl
-causes_write (fault.ScriptTooLong n) s0 s1 p0 p1 r0 r1 w0 w1 k c le rle is = causes_sink _ s0 s1 p0 p1 r0 r1 w0 w1 k c le rle is refl
-causes_write (fault.Full x y z) s0 s1 p0 p1 r0 r1 w0 w1 k c le rle is = causes_sink _ s0 s1 p0 p1 r0 r1 w0 w1 k c le rle is refl
+causes_write f s0 s1 p0 p1 r0 r1 w0 w1 k c le rle is = causes_sink _ s0 s1 p0 p1 r0 r1 w0 w1 k c le rle is refl
 
 pub done_no_write : (a : Answer) → is_refused a ≡ false → write_number a ≡ None
 done_no_write (Refused f) e = cc
-done_no_write (Stored a b c d e f g) h = refl
-done_no_write (Restored a b c d) h = refl
-done_no_write (Removed a b c d) h = refl
-done_no_write (Shown a b c) h = refl
-done_no_write (Migrated a) h = refl
-done_no_write (Scrubbed a b) h = refl
+done_no_write a h = refl
 
 -- one name changes
 not_among : (name other : List ℕ) → is_one_of (name ∷ []) other ≡ false → other ≢ name
@@ -537,25 +416,12 @@ written_output limits S s v cache answer old new before now s0 s1 k0 k1 kept fit
 
     by : (a : Answer) → IsTrue (fits limits (Restore s v [] cache) a) → RiseFrom 0 (cons_option (place_number a) []) 0 → refuses_by_state a ≡ false → (IsTrue (writes_all a) → front ≡ bytes_of S s v) → IsOutput (bytes_of S s v) a before now
     by (Restored t w bytes loads) fit place due done = now_is ∙ ap (λ (x : List ℕ). Some x) (done refl)
-    by (Stored a b c d e f g) fit place due done = cc
-    by (Removed a b c d) fit place due done = cc
-    by (Shown a b c) fit place due done = cc
-    by (Migrated a) fit place due done = cc
-    by (Scrubbed a b) fit place due done = cc
     by (Refused (fault.NotKept a b c d)) fit place due done = cc
     by (Refused (fault.PlaceFault n)) fit place due done = absurd (omega (arith, place.0, place.1))
-    by (Refused fault.Usage) fit place due done = some_front
-    by (Refused (fault.ReadFault n)) fit place due done = some_front
-    by (Refused (fault.WriteFault n)) fit place due done = some_front
-    by (Refused (fault.StoreFault n)) fit place due done = some_front
     by (Refused (fault.Damaged kind.Recipe b (why.Whole want found))) fit place due done = now_is ∙ ap (λ (x : List ℕ). Some x) (done refl)
-    by (Refused (fault.Damaged a b c)) fit place due done = some_front
     by (Refused fault.Memory) fit place due done = inr some_front
-    by (Refused (fault.TooMany n)) fit place due done = some_front
-    by (Refused (fault.LastVersion a b c)) fit place due done = some_front
-    by (Refused (fault.BadLine n)) fit place due done = some_front
-    by (Refused (fault.ScriptTooLong n)) fit place due done = some_front
-    by (Refused (fault.Full a b c)) fit place due done = some_front
+    by (Refused f) fit place due done = some_front
+    by a fit place due done = cc
 
 pub numbered_output : (bytes : List ℕ) (f : Fault) (m : ℕ) (before now : Option (List ℕ)) → IsOutput bytes (Refused f) before now → IsOutput bytes (Refused (write_numbered m f)) before now
 numbered_output bytes (fault.WriteFault n) m before now h = h

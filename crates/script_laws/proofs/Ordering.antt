@@ -6,7 +6,7 @@ use Rattle.vault_types.specs.declared.Answer.{Answer}
 use Rattle.vault_types.specs.declared.Line.{Line}
 use Rattle.vault_types.specs.declared.Line.TheVariants.{Backup, Restore, Delete}
 use Rattle.vault_traits.specs.Counts.{RiseFrom}
-use Rattle.store_model.specs.Causes.{Counts, CausesRise, HasCauses, RiseInSomeOrder, answers_of_changes, store_number}
+use Rattle.store_model.specs.Causes.{Counts, CausesRise, AnswersHaveCauses, RiseInSomeOrder, answers_of_changes, store_number}
 use Rattle.script_laws.proofs.Rising.{rise_lower}
 
 -- in script order they rise in some order, too
@@ -32,7 +32,7 @@ changes_in_order (Backup s name config ∷ lines) (answer ∷ answers) a b rise 
 changes_in_order (Restore s v name cache ∷ lines) (answer ∷ answers) a b rise = changes_in_order lines answers a b (off (store_number answer) a b _ rise)
 changes_in_order (Delete s n ∷ lines) (answer ∷ answers) a b rise = onto (store_number answer) a b _ _ (λ c. changes_in_order lines answers c b) rise
 
-pub causes_in_order : (old new : Counts) (lines : List Line) (answers : List Answer) → CausesRise old new answers → HasCauses old new lines answers
+pub causes_in_order : (old new : Counts) (lines : List Line) (answers : List Answer) → CausesRise old new answers → AnswersHaveCauses old new lines answers
 causes_in_order old new lines answers c = record {
   store = some_order old.store new.store _ c.store;
   place = some_order old.place new.place _ c.place;

@@ -1,8 +1,8 @@
-//! A run of a script's lines on one thread, over any store that does what a line means (`Store`).
+//! A run of a script's lines on one thread, over any store that does what a line means (`LineStore`).
 #![tactic(auto)]
 
 mod run;
 mod store;
 
 pub use run::{Done, script_plain};
-pub use store::Store;
+pub use store::LineStore;

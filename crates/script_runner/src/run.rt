@@ -12,7 +12,7 @@ ghost use Rattle.store_model.specs.Script.{RunsLines};
 ghost use Rattle.store_model.specs.Steps.{StepsLine, read_numbered, write_numbered};
 ghost use Rattle.store_model.specs.Ranges.{IsLineInRange, AreLimits};
 
-use crate::store::Store;
+use crate::store::LineStore;
 use std::alloc::Global;
 use vault_traits::{Places, Refused};
 use vault_types::text::Text;
@@ -20,7 +20,7 @@ use vault_types::{Answer, Fault, JobConfig, Limits, Line, Memory, Set, Version};
 
 /// What a run of lines gives back: the store, and one answer for each line.
 #[derive(Drop)]
-pub struct Done<K: Store> {
+pub struct Done<K: LineStore> {
     pub store: K,
     pub answers: Vec<Answer>,
 }
@@ -46,7 +46,7 @@ fn with_write_number(fault: Fault, number: u64) -> Fault
 }
 
 // A line that backs a source up.
-fn backup_line<K: Store, P: Places>(
+fn backup_line<K: LineStore, P: Places>(
     alloc: Global,
     store: &mut K,
     set: Set,
@@ -57,8 +57,10 @@ fn backup_line<K: Store, P: Places>(
 ) -> Answer
     requires config { IsInRange config.now }
     requires limits { AreLimits limits.now }
-    ensures { StepsLine K.shelf K.keeps K.strays limits.now (record { keeper = store.old; places = P.told places.old })
-        (line.Backup set name.now config.now) result (record { keeper = store.new; places = P.told places.new }) }
+    ensures { StepsLine K.shelf K.keeps K.strays limits.now
+        (record { keeper = store.old; places = P.told places.old })
+        (line.Backup set name.now config.now) result
+        (record { keeper = store.new; places = P.told places.new }) }
 {
     if store.full(set, limits) {
         return Answer::Refused(Fault::Full {
@@ -82,7 +84,7 @@ fn backup_line<K: Store, P: Places>(
 }
 
 // A line that restores a version.
-fn restore_line<K: Store, P: Places>(
+fn restore_line<K: LineStore, P: Places>(
     alloc: Global,
     store: &mut K,
     set: Set,
@@ -94,9 +96,13 @@ fn restore_line<K: Store, P: Places>(
 ) -> Answer
     requires some { 1 ≤ slots }
     requires few { slots ≤ 64 }
-    ensures room { (S : State) (other : Option Change) → K.keeps store.old S other → IsSome (P.told places.old).files → NeedsRoom P.room S (line.Restore set version name.now slots) result }
-    ensures steps { StepsLine K.shelf K.keeps K.strays limits.now (record { keeper = store.old; places = P.told places.old })
-        (line.Restore set version name.now slots) result (record { keeper = store.new; places = P.told places.new }) }
+    ensures room { (S : State) (other : Option Change) → K.keeps store.old S other
+        → IsSome (P.told places.old).files
+        → NeedsRoom P.room S (line.Restore set version name.now slots) result }
+    ensures steps { StepsLine K.shelf K.keeps K.strays limits.now
+        (record { keeper = store.old; places = P.told places.old })
+        (line.Restore set version name.now slots) result
+        (record { keeper = store.new; places = P.told places.new }) }
 {
     if !store.kept(set, version) {
         return Answer::Refused(Fault::NotKept {
@@ -121,14 +127,15 @@ fn restore_line<K: Store, P: Places>(
 }
 
 // A line that deletes versions.
-fn delete_line<K: Store, P: Places>(
+fn delete_line<K: LineStore, P: Places>(
     store: &mut K,
     set: Set,
     through: Version,
     places: &P,
     limits: &Limits,
 ) -> Answer
-    ensures { StepsLine K.shelf K.keeps K.strays limits.now (record { keeper = store.old; places = P.told places.now })
+    ensures { StepsLine K.shelf K.keeps K.strays limits.now
+        (record { keeper = store.old; places = P.told places.now })
         (line.Delete set through) result (record { keeper = store.new; places = P.told places.now }) }
 {
     match store.delete(set, through) {
@@ -137,7 +144,7 @@ fn delete_line<K: Store, P: Places>(
     }
 }
 
-fn one_line<K: Store, P: Places>(
+fn one_line<K: LineStore, P: Places>(
     alloc: Global,
     store: &mut K,
     line: &Line,
@@ -146,8 +153,10 @@ fn one_line<K: Store, P: Places>(
 ) -> Answer
     requires range { IsLineInRange line.now }
     requires limits { AreLimits limits.now }
-    ensures room { (S : State) (other : Option Change) → K.keeps store.old S other → IsSome (P.told places.old).files → NeedsRoom P.room S line.now result }
-    ensures steps { StepsLine K.shelf K.keeps K.strays limits.now (record { keeper = store.old; places = P.told places.old })
+    ensures room { (S : State) (other : Option Change) → K.keeps store.old S other
+        → IsSome (P.told places.old).files → NeedsRoom P.room S line.now result }
+    ensures steps { StepsLine K.shelf K.keeps K.strays limits.now
+        (record { keeper = store.old; places = P.told places.old })
         line.now result (record { keeper = store.new; places = P.told places.new }) }
 {
     match line {
@@ -167,7 +176,7 @@ fn one_line<K: Store, P: Places>(
 /// Runs the lines one after another, each over the places that it names. Each answers, and a refused one leaves the
 /// store's versions; `Memory` comes before the first, and then nothing has changed. Where the sinks of the places have
 /// room for so many bytes, one fails only where the version is longer.
-pub fn script_plain<K: Store, P: Places>(
+pub fn script_plain<K: LineStore, P: Places>(
     alloc: Global,
     store: K,
     lines: &[Line],
@@ -177,8 +186,14 @@ pub fn script_plain<K: Store, P: Places>(
     requires apart { AreApartLines lines.now }
     requires ranges { AllByRecursion IsLineInRange lines.now }
     requires limits { AreLimits limits.now }
-    ensures runs { IfOk result (λ done. RunsLines true (λ S. K.keeps store S None) (λ S. K.strays store) limits.now lines.now done.answers.items (K.shelf store) (K.shelf done.store) (P.told places.old) (P.told places.new)) }
-    ensures room { IfOk result (λ done. (S : State) (sources : Sources) → K.keeps store S None → AreFedBy (P.told places.old).files sources lines.now → IsSome (P.told places.old).files → NeedRoom P.room sources S lines.now done.answers.items) }
+    ensures runs { IfOk result
+        (λ done.
+        RunsLines true (λ S. K.keeps store S None) (λ S. K.strays store) limits.now lines.now
+        done.answers.items (K.shelf store) (K.shelf done.store) (P.told places.old)
+        (P.told places.new)) }
+    ensures room { IfOk result (λ done. (S : State) (sources : Sources) → K.keeps store S None
+        → AreFedBy (P.told places.old).files sources lines.now → IsSome (P.told places.old).files
+        → NeedRoom P.room sources S lines.now done.answers.items) }
     ensures memory { IfErr result (λ e. (e.1 ≡ store) × (P.told places.new ≡ P.told places.old)) }
 {
     let mut store = store;

@@ -15,17 +15,17 @@ pair_of setting = (setting.name.now, setting.value.now)
 abbrev pub pairs : List Setting → Settings
 pairs settings = map pair_of settings
 
-abbrev pub allowed_of : Range → Allowed
-allowed_of (range.Number low high) = Number low high
-allowed_of (range.Word texts) = Word (map (λ t. t.now) texts.now)
+abbrev pub allowed_by : Range → Allowed
+allowed_by (range.Number low high) = Number low high
+allowed_by (range.Word texts) = Word (map (λ t. t.now) texts.now)
 
 -- the rows of a table of settings
 abbrev pub kinds_of : List SettingKind → Kinds
-kinds_of kinds = map (λ k. (k.name.now, allowed_of k.range)) kinds
+kinds_of kinds = map (λ k. (k.name.now, allowed_by k.range)) kinds
 
 -- the greatest number that a name's value may be
-abbrev pub greatest : List ℕ → ℕ
-greatest name =
+abbrev pub greatest_value : List ℕ → ℕ
+greatest_value name =
     if bytes_eq name (codes "seed") then 18446744073709551615
     else if bytes_eq name (codes "set") then 255
     else 4294967295
@@ -36,7 +36,7 @@ is_at_most n (Word texts) = not (list_any (λ t. is_some (number t)) texts)
 
 -- the numbers that a table of settings allows are not above those
 abbrev pub kinds_fit : Kinds → Bool
-kinds_fit kinds = list_all (λ k. is_at_most (greatest k.0) k.1) kinds
+kinds_fit kinds = list_all (λ k. is_at_most (greatest_value k.0) k.1) kinds
 
 -- the numbers among the values fit: the seed 64 bits, the set 8, and each other 32
 pub record NumbersFit (settings : Settings) : Type 0 where
@@ -47,4 +47,6 @@ pub record NumbersFit (settings : Settings) : Type 0 where
 -- what the first setting of some words is, and how many words it is, if it is one
 abbrev pub FirstSetting : List (List ℕ) → Option ((List ℕ × List ℕ) × ℕ) → Type 0
 FirstSetting words None = settings_of words ≡ None
-FirstSetting words (Some r) = (0 < r.1) × (r.1 ≤ length words) × (settings_of words ≡ with_setting (Some r.0) (settings_of (drop r.1 words)))
+FirstSetting words (Some r) =
+    (0 < r.1) × (r.1 ≤ length words)
+    × (settings_of words ≡ with_setting (Some r.0) (settings_of (drop r.1 words)))

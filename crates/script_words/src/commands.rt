@@ -19,7 +19,8 @@ use vault_types::{Command, Fault, Set, Version};
 /// The command that the words are. `Usage` is answered exactly where they are none, and `Memory` where there is none.
 pub fn read_words(alloc: Global, words: &[String]) -> Result<Command, Fault>
     ensures ok { IfOk result (λ c. spec.command_of (map string_bytes words.now) ≡ Some c) }
-    ensures err { IfErr result (λ e. (e ≡ fault.Memory) ⊎ ((e ≡ fault.Usage) × (spec.command_of (map string_bytes words.now) ≡ None))) }
+    ensures err { IfErr result (λ e. (e ≡ fault.Memory)
+        ⊎ ((e ≡ fault.Usage) × (spec.command_of (map string_bytes words.now) ≡ None))) }
 {
     if words.is_empty() {
         return Err(Fault::Usage);
@@ -37,7 +38,8 @@ pub fn read_words(alloc: Global, words: &[String]) -> Result<Command, Fault>
 /// exactly where the words are anything else, and `Memory` where there is none.
 pub fn read_replica(alloc: Global, words: &[String]) -> Result<(Set, Version), Fault>
     ensures ok { IfOk result (λ p. spec.replica_of (map string_bytes words.now) ≡ Some p) }
-    ensures err { IfErr result (λ e. (e ≡ fault.Memory) ⊎ ((e ≡ fault.Usage) × (spec.replica_of (map string_bytes words.now) ≡ None))) }
+    ensures err { IfErr result (λ e. (e ≡ fault.Memory)
+        ⊎ ((e ≡ fault.Usage) × (spec.replica_of (map string_bytes words.now) ≡ None))) }
 {
     match settings_of(alloc, words)? {
         Some(settings) => match replica_with(&settings) {
@@ -132,8 +134,11 @@ fn sample_in(settings: &[Setting]) -> Option<(u32, u32)>
 }
 
 fn restore_command(settings: &[Setting]) -> Option<Command>
-    ensures { result ≡ spec.checked (spec.set_kind ++ spec.version_kind (codes "version") ++ spec.cache_kind ++ spec.area_kind)
-        (λ s. spec.has_value s (codes "version") && spec.area_agrees s) spec.restore_command (pairs settings.now) }
+    ensures { result
+        ≡ spec.checked
+        (spec.set_kind ++ spec.version_kind (codes "version") ++ spec.cache_kind ++ spec.area_kind)
+        (λ s. spec.has_value s (codes "version") && spec.area_agrees s) spec.restore_command
+        (pairs settings.now) }
 {
     if are_allowed(settings, &restore_kinds())
         && has_value(settings, b"version")
@@ -186,7 +191,9 @@ fn show_command(settings: &[Setting]) -> Option<Command>
 }
 
 fn batch_command(settings: &[Setting]) -> Option<Command>
-    ensures { result ≡ spec.checked (spec.queue_kinds ++ spec.workers_kind) spec.always spec.batch_command (pairs settings.now) }
+    ensures { result
+        ≡ spec.checked (spec.queue_kinds ++ spec.workers_kind) spec.always spec.batch_command
+        (pairs settings.now) }
 {
     if are_allowed(settings, &batch_kinds()) {
         Some(Command::Batch {
@@ -200,8 +207,13 @@ fn batch_command(settings: &[Setting]) -> Option<Command>
 }
 
 fn fill_command(settings: &[Setting]) -> Option<Command>
-    ensures { result ≡ spec.checked ((codes "seed", spec.Number 0 18446744073709551615) ∷ (codes "versions", spec.Number 1 64) ∷ spec.queue_kinds ++ spec.workers_kind)
-        (λ s. spec.has_value s (codes "seed") && spec.has_value s (codes "versions")) spec.fill_command (pairs settings.now) }
+    ensures { result
+        ≡ spec.checked
+        ((codes "seed", spec.Number 0 18446744073709551615) ∷ (codes "versions", spec.Number 1 64)
+        ∷ spec.queue_kinds
+        ++ spec.workers_kind)
+        (λ s. spec.has_value s (codes "seed") && spec.has_value s (codes "versions")) spec.fill_command
+        (pairs settings.now) }
 {
     if are_allowed(settings, &fill_kinds())
         && has_value(settings, b"seed")

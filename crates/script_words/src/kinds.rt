@@ -3,7 +3,7 @@ ghost use Rattle.std.specs.Prelude.{◌≡◌, true, ◌&&◌, ◌++◌, ◌∷�
 ghost use Rattle.std.specs.List.{list_any};
 ghost use Rattle.std.specs.Str.{bytes_eq};
 ghost use Rattle.vault_types.specs.Words as spec;
-ghost use Rattle.script_words.specs.Settings.{allowed_of, kinds_of, kinds_fit};
+ghost use Rattle.script_words.specs.Settings.{allowed_by, kinds_of, kinds_fit};
 
 use crate::values::{is_number_in, is_one_of};
 
@@ -169,7 +169,8 @@ const REWRITE: SettingKind = SettingKind {
 
 /// The settings of a backup.
 pub(crate) fn backup_kinds() -> [SettingKind; 15]
-    ensures rows { kinds_of result ≡ spec.set_kind ++ spec.job_kinds ++ spec.queue_kinds ++ spec.sample_kinds }
+    ensures rows { kinds_of result
+        ≡ spec.set_kind ++ spec.job_kinds ++ spec.queue_kinds ++ spec.sample_kinds }
     ensures fit { kinds_fit (kinds_of result) ≡ true }
 {
     [
@@ -180,7 +181,8 @@ pub(crate) fn backup_kinds() -> [SettingKind; 15]
 
 /// The settings of a restore.
 pub(crate) fn restore_kinds() -> [SettingKind; 4]
-    ensures rows { kinds_of result ≡ spec.set_kind ++ spec.version_kind (codes "version") ++ spec.cache_kind ++ spec.area_kind }
+    ensures rows { kinds_of result
+        ≡ spec.set_kind ++ spec.version_kind (codes "version") ++ spec.cache_kind ++ spec.area_kind }
     ensures fit { kinds_fit (kinds_of result) ≡ true }
 {
     [SET, VERSION, CACHE, AREA]
@@ -212,7 +214,10 @@ pub(crate) fn batch_kinds() -> [SettingKind; 3]
 
 /// The settings of a fill.
 pub(crate) fn fill_kinds() -> [SettingKind; 5]
-    ensures rows { kinds_of result ≡ (codes "seed", spec.Number 0 18446744073709551615) ∷ (codes "versions", spec.Number 1 64) ∷ spec.queue_kinds ++ spec.workers_kind }
+    ensures rows { kinds_of result
+        ≡ (codes "seed", spec.Number 0 18446744073709551615) ∷ (codes "versions", spec.Number 1 64)
+        ∷ spec.queue_kinds
+        ++ spec.workers_kind }
     ensures fit { kinds_fit (kinds_of result) ≡ true }
 {
     [SEED, VERSIONS, QUEUE, LANES, WORKERS]
@@ -254,7 +259,7 @@ pub(crate) fn delete_line_kinds() -> [SettingKind; 1]
 
 /// Whether a value is one that there may be.
 pub(crate) fn is_in(range: Range, value: &[u8]) -> bool
-    ensures { result ≡ spec.is_allowed (allowed_of range) value.now }
+    ensures { result ≡ spec.is_allowed (allowed_by range) value.now }
 {
     match range {
         Range::Number { low, high } => is_number_in(value, low, high),
@@ -264,7 +269,8 @@ pub(crate) fn is_in(range: Range, value: &[u8]) -> bool
 
 /// Whether a name is one of the table's, and may have the value.
 pub(crate) fn may_be(kinds: &[SettingKind], name: &[u8], value: &[u8]) -> bool
-    ensures { result ≡ list_any (λ k. bytes_eq k.0 name.now && spec.is_allowed k.1 value.now) (kinds_of kinds.now) }
+    ensures { result
+        ≡ list_any (λ k. bytes_eq k.0 name.now && spec.is_allowed k.1 value.now) (kinds_of kinds.now) }
 {
     for kind in kinds {
         if kind.name == name && is_in(kind.range, value) {

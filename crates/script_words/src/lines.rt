@@ -20,8 +20,10 @@ pub enum Damage {
 /// Puts the line of a version that was restored, with its line feed, at the front of `out`, and answers its length in
 /// bytes. `sum` is the SHA-1 of the version's bytes. It takes no memory.
 pub fn output_text(version: Version, sum: &Fp, out: &mut [u8; 256]) -> usize
-    ensures text { take result out.new ≡ spec.text_line (codes "output " ++ decimal version ++ codes " " ++ encode_lower sum.now.0) }
-    ensures of_bytes { (bytes : List ℕ) → sum.now.0 ≡ sha1 bytes → take result out.new ≡ spec.output_text version bytes }
+    ensures text { take result out.new
+        ≡ spec.text_line (codes "output " ++ decimal version ++ codes " " ++ encode_lower sum.now.0) }
+    ensures of_bytes { (bytes : List ℕ) → sum.now.0 ≡ sha1 bytes
+        → take result out.new ≡ spec.output_text version bytes }
     ensures fits { result ≤ 256 }
 {
     let mut line = Buffer::new();

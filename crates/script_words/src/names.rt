@@ -30,7 +30,8 @@ impl NameSet {
     }
 
     fn add(&mut self, alloc: Global, name: &str) -> Result<(), Memory>
-        ensures { (known : List (List ℕ)) → HasThese self.old known → OnOk result (HasThese self.new (known ++ name.now ∷ [])) }
+        ensures { (known : List (List ℕ)) → HasThese self.old known
+            → OnOk result (HasThese self.new (known ++ name.now ∷ [])) }
     {
         let name = String::from_str(alloc, name)?;
         self.names.insert(name)?;
@@ -58,7 +59,8 @@ impl Names {
 
     /// Whether a line may follow lines with these names: no output is named twice, and none is a source.
     pub(crate) fn may_follow(&self, line: &Line) -> bool
-        ensures { (ins outs : List (List ℕ)) → HasNames self.now ins outs → result ≡ spec.may_follow ins outs line.now }
+        ensures { (ins outs : List (List ℕ)) → HasNames self.now ins outs
+            → result ≡ spec.may_follow ins outs line.now }
     {
         match line {
             Line::Backup { name, .. } => !self.outputs.has(name.as_str()),
@@ -73,7 +75,8 @@ impl Names {
     /// Adds the names of a line.
     pub(crate) fn add(&mut self, alloc: Global, line: &Line) -> Result<(), Memory>
         ensures { (ins outs : List (List ℕ)) → HasNames self.old ins outs
-            → OnOk result (HasNames self.new (ins ++ spec.sources_of line.now) (outs ++ spec.outputs_of line.now)) }
+            → OnOk result
+            (HasNames self.new (ins ++ spec.sources_of line.now) (outs ++ spec.outputs_of line.now)) }
     {
         match line {
             Line::Backup { name, .. } => self.sources.add(alloc, name.as_str()),
@@ -85,7 +88,8 @@ impl Names {
 
 /// A text as the name of a place, if it is one.
 pub(crate) fn name_of(text: &[u8]) -> Option<&str>
-    ensures { MatchOption result (spec.is_name text.now ≡ false) (λ name. (spec.is_name text.now ≡ true) × (name.now ≡ text.now)) }
+    ensures { MatchOption result (spec.is_name text.now ≡ false) (λ name. (spec.is_name text.now ≡ true)
+        × (name.now ≡ text.now)) }
 {
     if !is_name(text) {
         return None;

@@ -13,7 +13,8 @@ pub(crate) fn settings_of<'a>(
     alloc: Global,
     words: &'a [String],
 ) -> Result<Option<Vec<Setting<'a>>>, Memory>
-    ensures { IfOk result (λ o. option_map (λ v. pairs v.items) o ≡ spec.settings_of (map string_bytes words.now)) }
+    ensures { IfOk result
+        (λ o. option_map (λ v. pairs v.items) o ≡ spec.settings_of (map string_bytes words.now)) }
 {
     let mut settings = Vec::new(alloc);
     let mut i = 0;
@@ -104,7 +105,8 @@ pub(crate) fn line_settings<'a>(
     alloc: Global,
     words: &[&'a [u8]],
 ) -> Result<Option<Vec<Setting<'a>>>, Memory>
-    ensures { IfOk result (λ o. option_map (λ v. pairs v.items) o ≡ spec.line_settings (map (λ w. w.now) words.now)) }
+    ensures { IfOk result
+        (λ o. option_map (λ v. pairs v.items) o ≡ spec.line_settings (map (λ w. w.now) words.now)) }
 {
     let mut settings = Vec::new(alloc);
     for word in words {

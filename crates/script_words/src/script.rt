@@ -15,7 +15,8 @@ use vault_types::{Fault, Line};
 pub fn read_script(alloc: Global, text: &[u8]) -> Result<Vec<Line>, Fault>
     requires { length text.now < 2 ^ 32 }
     ensures ok { IfOk result (λ lines. spec.script_of text.now ≡ Ok lines.items) }
-    ensures err { IfErr result (λ e. (e ≡ fault.Memory) ⊎ ((n : ℕ) × (e ≡ fault.BadLine n) × (spec.script_of text.now ≡ Err n))) }
+    ensures err { IfErr result (λ e. (e ≡ fault.Memory)
+        ⊎ ((n : ℕ) × (e ≡ fault.BadLine n) × (spec.script_of text.now ≡ Err n))) }
 {
     let mut lines = Vec::new(alloc);
     let mut names = Names::new(alloc);

@@ -91,7 +91,8 @@ fn restore_line(
     name: &[u8],
     words: &[&[u8]],
 ) -> Result<Option<Line>, Memory>
-    ensures { IfOk result (λ line. line ≡ spec.restore_line version.now name.now (map (λ w. w.now) words.now)) }
+    ensures { IfOk result
+        (λ line. line ≡ spec.restore_line version.now name.now (map (λ w. w.now) words.now)) }
 {
     let name = match name_of(name) {
         Some(name) => name,
@@ -138,8 +139,10 @@ fn delete_line(alloc: Global, through: &[u8], words: &[&[u8]]) -> Result<Option<
 
 // The number of a version that a text is, if it is one.
 fn version_of(text: &[u8]) -> Option<Version>
-    ensures { MatchOption result ((spec.is_value text.now && spec.is_allowed (spec.Number 0 4294967295) text.now) ≡ false)
-        (λ n. ((spec.is_value text.now && spec.is_allowed (spec.Number 0 4294967295) text.now) ≡ true) × (n ≡ spec.value_of_digits text.now)) }
+    ensures { MatchOption result
+        ((spec.is_value text.now && spec.is_allowed (spec.Number 0 4294967295) text.now) ≡ false)
+        (λ n. ((spec.is_value text.now && spec.is_allowed (spec.Number 0 4294967295) text.now) ≡ true)
+        × (n ≡ spec.value_of_digits text.now)) }
 {
     if !is_value(text) {
         return None;

@@ -9,7 +9,8 @@ use vault_types::{Id, Memory, Recipe, Row};
 /// Appends the text of a recipe: a line on the version, a line for each chunk, and one for each sparse container.
 /// After `Memory` the text is as before.
 pub fn show_text(recipe: &Recipe, out: &mut Vec<u8>) -> Result<(), Memory>
-    ensures { out.new.items ≡ (if is_ok result then out.old.items ++ spec.recipe_text recipe.now else out.old.items) }
+    ensures { out.new.items
+        ≡ (if is_ok result then out.old.items ++ spec.recipe_text recipe.now else out.old.items) }
 {
     let before = out.len();
     match add_recipe(recipe, out) {

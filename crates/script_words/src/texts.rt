@@ -73,7 +73,8 @@ fn stored_words(
     line: &mut Buffer,
 )
     requires { length line.old ≤ 80 }
-    ensures text { line.new ≡ line.old ++ decimal chunks ++ codes " chunks, " ++ decimal bytes ++ codes " bytes, "
+    ensures text { line.new
+        ≡ line.old ++ decimal chunks ++ codes " chunks, " ++ decimal bytes ++ codes " bytes, "
         ++ decimal containers ++ codes " new containers, " ++ decimal written ++ codes " bytes written, "
         ++ decimal sparse ++ codes " sparse" }
     ensures fits { length line.new < 256 }
@@ -124,7 +125,8 @@ fn fault_words(fault: &Fault, line: &mut Buffer)
 
 fn damaged_words(kind: Kind, number: u64, line: &mut Buffer)
     requires { length line.old ≡ 0 }
-    ensures text { line.new ≡ codes "error 7: store damaged, " ++ spec.kind_text kind ++ codes " " ++ decimal number }
+    ensures text { line.new
+        ≡ codes "error 7: store damaged, " ++ spec.kind_text kind ++ codes " " ++ decimal number }
     ensures fits { length line.new < 100 }
 {
     line.text(b"error 7: store damaged, ");

@@ -26,14 +26,16 @@ fn are_digits(text: &[u8]) -> bool
 
 // Whether a text has a first byte, and one that is no leading zero.
 fn has_no_spare_zero(text: &[u8]) -> bool
-    ensures { result ≡ (nat_lt 0 (length text.now) && (not (slice_index text.now 0 == 48) || length text.now == 1)) }
+    ensures { result
+        ≡ (nat_lt 0 (length text.now) && (not (slice_index text.now 0 == 48) || length text.now == 1)) }
 {
     !text.is_empty() && (text[0] != b'0' || text.len() == 1)
 }
 
 /// The number below 2^64 that a text is the decimal form of, without a sign and without a leading zero.
 pub(crate) fn number(text: &[u8]) -> Option<u64>
-    ensures { MatchOption result (spec.in_range 0 18446744073709551615 (spec.number text.now) ≡ false) (λ n. spec.number text.now ≡ Some n) }
+    ensures { MatchOption result (spec.in_range 0 18446744073709551615 (spec.number text.now) ≡ false)
+        (λ n. spec.number text.now ≡ Some n) }
 {
     if !has_no_spare_zero(text) {
         return None;

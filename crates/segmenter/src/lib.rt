@@ -40,8 +40,10 @@ impl Segmenter {
     pub fn push(&mut self, len: u32) -> Cut
         requires low { 1 ≤ len }
         requires high { len ≤ 65536 }
-        ensures pushed { (size : ℕ) (lens : List ℕ) → HasPushed self.old size lens → HasPushed self.new size (lens ++ len ∷ []) }
-        ensures cut { (size : ℕ) (lens : List ℕ) → HasPushed self.old size lens → segments_of size (lens ++ len ∷ []) ≡ with_next result (segments_of size lens) len }
+        ensures pushed { (size : ℕ) (lens : List ℕ) → HasPushed self.old size lens
+            → HasPushed self.new size (lens ++ len ∷ []) }
+        ensures cut { (size : ℕ) (lens : List ℕ) → HasPushed self.old size lens
+            → segments_of size (lens ++ len ∷ []) ≡ with_next result (segments_of size lens) len }
         ensures first { (size : ℕ) → HasPushed self.old size [] → result ≡ Cut.Same }
     {
         match self.used {

@@ -1,22 +1,22 @@
 -- Pieces on their way through the pass.
-use Rattle.std.proofs.Common.{◌≡◌, inl, inr, ⊎_elim, ℕ, ◌+◌, ◌*◌, ◌<◌, ◌≤◌, List, [], ◌∷◌, ◌++◌, length, map, Option, Some, None, refl, sym, ◌∙◌, ap, subst, arith, append-nil, append_assoc, length-append}
+use Rattle.std.proofs.Common.{◌≡◌, inl, inr, ⊎_elim, ℕ, ◌*◌, ◌<◌, ◌≤◌, List, [], ◌∷◌, ◌++◌, length, map, Option, Some, None, refl, sym, ◌∙◌, ap, subst, arith, append-nil, append_assoc, length-append}
 use Rattle.std.specs.Prelude.{Result, Ok, Err, OnOk, IfOk, IfErr, IfSome}
 use Rattle.std.specs.Option.{option_map}
 use Rattle.std.proofs.lemmas.List.{map-append}
 use Rattle.vault_types.specs.declared.Fault.{Fault}
 use Rattle.vault_types.specs.declared.Fault.TheVariants as fault
 use Rattle.vault_types.specs.Tables.{Container}
-use Rattle.vault_traits.specs.Told.{SourceTold, Gives}
+use Rattle.vault_traits.specs.Told.{SourceTold, Gives, IsAtEnd}
 use Rattle.vault_traits.specs.Counts.{Rose}
 use Rattle.backup_pass.specs.declared.pass.Pass.{Pass}
 use Rattle.backup_pass.specs.Passing.{HasPassed, index_in}
 use Rattle.keeper_catalog.specs.View.{View}
-use Rattle.backup_jobs.specs.Backup.{IsBackupFault, IsAtEnd}
-use Rattle.backup_jobs.specs.declared.closing.Ended.{Ended}
+use Rattle.backup_jobs.specs.Backup.{IsBackupFault}
+use Rattle.backup_jobs.specs.declared.closing.StreamEnd.{StreamEnd}
 use Rattle.backup_jobs.specs.Going.{Began, AreNamed, IsUnderway, IsPutStop, IsStopped, IsOver, HasEnded, rules_of, len_of}
 use Rattle.backup_jobs.proofs.Jobs.{named_then, rose_from}
 use Rattle.backup_jobs.proofs.Causes.{put_is_cause}
-use Rattle.serial_backup.specs.Streaming.{IsFed, IsHalted, IsTooMany, IsTooManyInAll, IsGoing, HasGone}
+use Rattle.serial_backup.specs.Streaming.{IsFed, IsHalted, IsTooMany, IsTooManyInAll, IsGoing, HasPassedPiece}
 
 pub passed_none : (b : Began) (now : View) (p : Pass) (lens read : List ℕ) (h : IsFed b now p lens read) (none : List Container) → none ≡ [] → HasPassed p (rules_of b) b.limits.chunks b.first read (h.containers ++ none)
 passed_none b now p lens read h none is = subst (HasPassed p (rules_of b) b.limits.chunks b.first read) (sym (ap (λ xs. h.containers ++ xs) is ∙ append-nil h.containers)) h.passed
@@ -117,7 +117,7 @@ module _ (b : Began) (before now : View) (from to : SourceTold) (old : Pass) (le
     cause = ⊎_elim (put_is_cause b now to (read ++ piece) f) (settled_is_cause b now to (read ++ piece) f) halted.cause;
   }
 
-  pub feed_goes : (piece : List ℕ) → length read ≤ b.limits.chunks * 65536 → length piece ≤ 65536 → (new : Pass) (lens' : List ℕ) (n : ℕ) → n ≡ length piece → (n ≡ 0 → IsAtEnd from) → Gives from.left to.left piece → from.faults ≤ to.faults → IsFed b now new lens' (read ++ piece) → HasGone b now to new lens' read n
+  pub feed_goes : (piece : List ℕ) → length read ≤ b.limits.chunks * 65536 → length piece ≤ 65536 → (new : Pass) (lens' : List ℕ) (n : ℕ) → n ≡ length piece → (n ≡ 0 → IsAtEnd from) → Gives from.left to.left piece → from.faults ≤ to.faults → IsFed b now new lens' (read ++ piece) → HasPassedPiece b now to new lens' read n
   feed_goes piece few one new lens' n len end gives later fed = record {
     piece = piece;
     len = len;
@@ -155,7 +155,7 @@ pub going_from : (b : Began) (now : View) (to : SourceTold) (p : Pass) (lens : L
 going_from b now to p lens none h = subst (λ (l : List ℕ). IsGoing b now to p l []) (sym none) h
 
 -- the pass has ended, or stopped
-pub ends_over : (b : Began) (before now : View) (to : SourceTold) (pass : Pass) (lens lens' read : List ℕ) (h : IsGoing b before to pass lens read) → IsAtEnd to → (r : Result Ended Fault)
+pub ends_over : (b : Began) (before now : View) (to : SourceTold) (pass : Pass) (lens lens' read : List ℕ) (h : IsGoing b before to pass lens read) → IsAtEnd to → (r : Result StreamEnd Fault)
     → IfOk r (λ e. HasEnded b now e lens' read) → IfErr r (IsHalted b now (IsTooManyInAll b read)) → IsOver b now to lens' r
 ends_over b before now to pass lens lens' read h end (Ok e) ok err = (record { read = read; given = h.given; source_later = h.source_later; end = end; ended = ok }, tt)
-ends_over b before now to pass lens lens' read h end (Err f) ok err = (tt, end_stops b before now to to pass lens read h end {T = Ended} (Err f) err)
+ends_over b before now to pass lens lens' read h end (Err f) ok err = (tt, end_stops b before now to to pass lens read h end {T = StreamEnd} (Err f) err)

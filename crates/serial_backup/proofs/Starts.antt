@@ -1,5 +1,5 @@
 -- A pass begins.
-use Rattle.std.proofs.Common.{◌≡◌, ◌+◌, ◌*◌, ◌≤◌, ℕ, List, [], length, refl, sym, subst, arith}
+use Rattle.std.proofs.Common.{◌≡◌, ℕ, List, [], arith}
 use Rattle.vault_types.specs.declared.JobConfig.{JobConfig}
 use Rattle.vault_types.specs.declared.Limits.{Limits}
 use Rattle.vault_traits.specs.Told.{SourceTold}
@@ -7,7 +7,7 @@ use Rattle.backup_pass.specs.declared.pass.Pass.{Pass}
 use Rattle.backup_pass.specs.Passing.{HasPassed, index_in}
 use Rattle.keeper_catalog.specs.View.{View}
 use Rattle.backup_jobs.specs.declared.opening.Opened.{Opened}
-use Rattle.backup_jobs.specs.Going.{Began, IsOpened, began_with, rules_of}
+use Rattle.backup_jobs.specs.Going.{IsOpened, began_with, rules_of}
 use Rattle.backup_jobs.proofs.Causes.{gives_none}
 use Rattle.serial_backup.specs.Streaming.{IsGoing}
 

@@ -5,14 +5,13 @@ use Rattle.vault_types.specs.declared.Fault.{Fault}
 use Rattle.vault_types.specs.Cuts.{cuts, settled}
 use Rattle.vault_types.specs.Names.{fp}
 use Rattle.vault_types.specs.Tables.{Container}
-use Rattle.vault_traits.specs.Told.{SourceTold, Gives}
+use Rattle.vault_traits.specs.Told.{SourceTold, Gives, IsAtEnd}
 use Rattle.container_fill.specs.Filling.{IsFilledBy}
 use Rattle.vault_types.specs.JobRanges.{IsCuttable}
 use Rattle.backup_pass.specs.declared.pass.Pass.{Pass}
 use Rattle.backup_pass.specs.declared.pass.Passed.{Passed}
 use Rattle.backup_pass.specs.Passing.{HasPassed, IsPassFault, index_in}
 use Rattle.keeper_catalog.specs.View.{View}
-use Rattle.backup_jobs.specs.Backup.{IsAtEnd}
 use Rattle.backup_jobs.specs.Going.{Began, AreNamed, IsUnderway, IsPutFault, rules_of, chunks_of, made, len_of}
 
 -- these bytes went through the pass, and the containers that it gave out are put
@@ -39,21 +38,24 @@ abbrev pub IsTooManyInAll : Began → List ℕ → Fault → Type 0
 IsTooManyInAll b read f = IsPassFault b.limits.chunks (length (cuts read b.config.cutting)) f
 
 -- the bytes that were read went through the pass
-pub record IsGoing (b : Began) (now : View) (to : SourceTold) (pass : Pass) (lens read : List ℕ) : Type 0 where
+pub record IsGoing (b : Began) (now : View) (to : SourceTold) (pass : Pass)
+    (lens read : List ℕ) : Type 0 where
   pub given : Gives b.source.left to.left read
   pub within : length read ≤ b.limits.chunks * 65536 + 65536
   pub source_later : b.source.faults ≤ to.faults
   pub fed : IsFed b now pass lens read
 
 -- a piece more went through the pass; none is the end
-pub record HasGone (b : Began) (now : View) (to : SourceTold) (pass : Pass) (lens read : List ℕ) (n : ℕ) : Type 0 where
+pub record HasPassedPiece (b : Began) (now : View) (to : SourceTold) (pass : Pass) (lens read : List ℕ)
+    (n : ℕ) : Type 0 where
   pub piece : List ℕ
   pub len : n ≡ length piece
   pub going : IsGoing b now to pass lens (read ++ piece)
   pub end : n ≡ 0 → IsAtEnd to
 
 -- the pass took the end: what it gave and the last container are to be put
-pub record HasPassedAll (b : Began) (now : View) (p : Passed) (full : List Container) (lens read : List ℕ) : Type 0 where
+pub record HasPassedAll (b : Began) (now : View) (p : Passed) (full : List Container)
+    (lens read : List ℕ) : Type 0 where
   pub containers : List Container
   pub underway : IsUnderway b now containers
   pub waits : now.pending ≡ pending.Not
@@ -62,4 +64,5 @@ pub record HasPassedAll (b : Began) (now : View) (p : Passed) (full : List Conta
   pub cuttable : IsCuttable b.config.cutting
   pub whole : p.whole ≡ fp read
   pub few : length (cuts read b.config.cutting) ≤ b.limits.chunks
-  pub filled : IsFilledBy (option_to_list p.filled.last) p.filled.rows p.filled.next p.filled.containers p.filled.written b.first (containers ++ full) (length (chunks_of b.config read)) (made b read)
+  pub filled : IsFilledBy (option_to_list p.filled.last) p.filled.rows p.filled.next p.filled.containers
+      p.filled.written b.first (containers ++ full) (length (chunks_of b.config read)) (made b read)

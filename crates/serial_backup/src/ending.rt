@@ -4,7 +4,7 @@ ghost use Rattle.backup_pass.specs.Passing.{index_in};
 ghost use Rattle.backup_jobs.specs.Going.{Began, HasEnded};
 ghost use Rattle.serial_backup.specs.Streaming.{IsFed, IsHalted, IsTooManyInAll, HasPassedAll};
 
-use backup_jobs::{Ended, Rest, put_all};
+use backup_jobs::{Rest, StreamEnd, put_all};
 use backup_pass::{Pass, Passed};
 use container_fill::{Filled, Unsealed};
 use container_store::Sealed;
@@ -31,11 +31,13 @@ fn put_rest<S: Shelf>(
     passed: Passed,
     full: Vec<Sealed>,
     lens: &mut Vec<u32>,
-) -> Result<Ended, Fault>
-    requires { (b : Began) × (read : List ℕ) × HasPassedAll b keeper.old passed full.items lens.old.items read }
+) -> Result<StreamEnd, Fault>
+    requires { (b : Began) × (read : List ℕ)
+        × HasPassedAll b keeper.old passed full.items lens.old.items read }
     ensures ok { (b : Began) (read : List ℕ) → HasPassedAll b keeper.old passed full.items lens.old.items read
         → IfOk result (λ e. HasEnded b keeper.new e lens.new.items read) }
-    ensures err { (b : Began) (read : List ℕ) → HasPassedAll b keeper.old passed full.items lens.old.items read
+    ensures err { (b : Began) (read : List ℕ)
+        → HasPassedAll b keeper.old passed full.items lens.old.items read
         → IfErr result (IsHalted b keeper.new (IsTooManyInAll b read)) }
 {
     let Passed { filled, whole } = passed;
@@ -55,7 +57,7 @@ fn put_rest<S: Shelf>(
         containers,
         written,
     };
-    Ok(Ended { rest, whole })
+    Ok(StreamEnd { rest, whole })
 }
 
 // Takes the end of the stream, and puts the containers that are left. The index comes back.
@@ -64,7 +66,7 @@ pub(crate) fn end_pass<S: Shelf>(
     keeper: &mut Keeper<S>,
     pass: Pass,
     lens: &mut Vec<u32>,
-) -> (Index, Result<Ended, Fault>)
+) -> (Index, Result<StreamEnd, Fault>)
     requires { (b : Began) × (read : List ℕ) × IsFed b keeper.old pass lens.old.items read }
     ensures index { result.0 ≡ index_in pass }
     ensures ok { (b : Began) (read : List ℕ) → IsFed b keeper.old pass lens.old.items read

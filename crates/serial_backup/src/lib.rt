@@ -2,6 +2,7 @@
 #![tactic(auto)]
 
 mod ending;
+mod line;
 mod reading;
 
 ghost use Rattle.std.specs.Prelude.{◌≡◌, ◌≤◌, None, []};
@@ -12,8 +13,9 @@ ghost use Rattle.backup_jobs.specs.Going.{Began, IsOver};
 ghost use Rattle.serial_backup.specs.Streaming.{IsGoing};
 
 use crate::ending::end_pass;
+pub use crate::line::backup_line;
 use crate::reading::read_all;
-use backup_jobs::{Ended, Opened, close_job, open_job};
+use backup_jobs::{Opened, StreamEnd, close_job, open_job};
 use backup_pass::Pass;
 use fp_index::Index;
 use keeper_core::Keeper;
@@ -28,10 +30,11 @@ fn run<S: Shelf, I: Source>(
     source: &mut I,
     pass: Pass,
     lens: &mut Vec<u32>,
-) -> (Index, Result<Ended, Fault>)
+) -> (Index, Result<StreamEnd, Fault>)
     requires { (b : Began) × IsGoing b keeper.old (I.told source.old) pass lens.old.items [] }
     ensures index { result.0 ≡ index_in pass }
-    ensures over { (b : Began) → IsGoing b keeper.old (I.told source.old) pass lens.old.items [] → IsOver b keeper.new (I.told source.new) lens.new.items result.1 }
+    ensures over { (b : Began) → IsGoing b keeper.old (I.told source.old) pass lens.old.items []
+        → IsOver b keeper.new (I.told source.new) lens.new.items result.1 }
 {
     let mut pass = pass;
     match read_all(alloc, keeper, source, &mut pass, lens) {
@@ -57,7 +60,8 @@ pub fn backup_plain<S: Shelf, I: Source>(
     requires low { 1 ≤ limits.now.chunks }
     requires high { limits.now.chunks ≤ 4194304 }
     requires last { limits.now.last ≤ 4294967294 }
-    ensures { BacksUp set config.now limits.now keeper.old keeper.new (I.told source.old) (I.told source.new) result }
+    ensures { BacksUp set config.now limits.now keeper.old keeper.new (I.told source.old) (I.told source.new)
+        result }
 {
     let opened = open_job(alloc, keeper, set, config, limits)?;
     let Opened { job, sparse, index } = opened;

@@ -1,9 +1,9 @@
 // The stream is read piece by piece, and each goes through the pass.
 ghost use Rattle.std.specs.Prelude.{◌≡◌, ◌<◌, ◌≤◌, ◌*◌, List, ℕ, OnOk, IfOk, IfErr, map, length, [], ◌∷◌, ◌++◌};
 ghost use Rattle.backup_pass.specs.Passing.{index_in};
-ghost use Rattle.backup_jobs.specs.Backup.{IsAtEnd};
+ghost use Rattle.vault_traits.specs.Told.{IsAtEnd};
 ghost use Rattle.backup_jobs.specs.Going.{Began, IsStopped};
-ghost use Rattle.serial_backup.specs.Streaming.{IsFed, IsHalted, IsTooMany, IsGoing, HasGone};
+ghost use Rattle.serial_backup.specs.Streaming.{IsFed, IsHalted, IsTooMany, IsGoing, HasPassedPiece};
 
 use backup_jobs::put_all;
 use backup_pass::Pass;
@@ -43,13 +43,18 @@ fn advance<S: Shelf, I: Source>(
 ) -> Result<usize, Fault>
     requires low { 0 < length piece.old }
     requires high { length piece.old ≤ 65536 }
-    requires going { (b : Began) × (read : List ℕ) × IsGoing b keeper.old (I.told source.old) pass.old lens.old.items read }
+    requires going { (b : Began) × (read : List ℕ)
+        × IsGoing b keeper.old (I.told source.old) pass.old lens.old.items read }
     ensures room { length piece.new ≡ length piece.old }
     ensures fits { IfOk result (λ n. n ≤ length piece.old) }
     ensures index { index_in pass.new ≡ index_in pass.old }
-    ensures ok { (b : Began) (read : List ℕ) → IsGoing b keeper.old (I.told source.old) pass.old lens.old.items read → length read ≤ b.limits.chunks * 65536
-        → IfOk result (HasGone b keeper.new (I.told source.new) pass.new lens.new.items read) }
-    ensures err { (b : Began) (read : List ℕ) → IsGoing b keeper.old (I.told source.old) pass.old lens.old.items read → length read ≤ b.limits.chunks * 65536
+    ensures ok { (b : Began) (read : List ℕ)
+        → IsGoing b keeper.old (I.told source.old) pass.old lens.old.items read
+        → length read ≤ b.limits.chunks * 65536
+        → IfOk result (HasPassedPiece b keeper.new (I.told source.new) pass.new lens.new.items read) }
+    ensures err { (b : Began) (read : List ℕ)
+        → IsGoing b keeper.old (I.told source.old) pass.old lens.old.items read
+        → length read ≤ b.limits.chunks * 65536
         → IfErr result (IsStopped b keeper.new (I.told source.new)) }
 {
     let n = match source.read(piece) {
@@ -71,7 +76,8 @@ pub(crate) fn read_all<S: Shelf, I: Source>(
     requires { (b : Began) × IsGoing b keeper.old (I.told source.old) pass.old lens.old.items [] }
     ensures index { index_in pass.new ≡ index_in pass.old }
     ensures ok { (b : Began) → IsGoing b keeper.old (I.told source.old) pass.old lens.old.items []
-        → OnOk result ((read : List ℕ) × IsGoing b keeper.new (I.told source.new) pass.new lens.new.items read × IsAtEnd (I.told source.new)) }
+        → OnOk result ((read : List ℕ) × IsGoing b keeper.new (I.told source.new) pass.new lens.new.items read
+        × IsAtEnd (I.told source.new)) }
     ensures err { (b : Began) → IsGoing b keeper.old (I.told source.old) pass.old lens.old.items []
         → IfErr result (IsStopped b keeper.new (I.told source.new)) }
 {

@@ -1,6 +1,6 @@
 -- A deletion's line, from the clauses of the keeper's deletion.
 use Rattle.std.proofs.Common.{◌≡◌, ◌⊎◌, inl, inr, ⊎_elim, ◌≤◌, ◌<◌, ◌+◌, ◌-◌, ◌*◌, ◌^◌, ◌&&◌, ℕ, Bool, true, false, IsTrue, List, [], ◌∷◌, length, Option, Some, None, refl, sym, ◌∙◌, ap, subst, arith}
-use Rattle.std.specs.Prelude.{IsSome, IfSome, IfOk, IfErr, OnOk, OnErr, Result, Ok, Err, Contains, MatchOption, if◌then◌else◌, nat_lt, nat_eq}
+use Rattle.std.specs.Prelude.{IsSome, IfSome, Result, Ok, Err, Contains, MatchOption, if◌then◌else◌, nat_lt, nat_eq}
 use Rattle.std.proofs.lemmas.Bool.Decides.{nat_tests}
 use Rattle.vault_types.specs.declared.Pending.TheVariants as pending
 use Rattle.vault_types.specs.declared.Limits.{Limits}
@@ -16,12 +16,11 @@ use Rattle.vault_types.specs.Events.{Core, Change, Pin, IsNear, after_delete, af
 use Rattle.vault_types.specs.Script.{after, is_refused}
 use Rattle.vault_types.specs.Refusals.{due_refusal, refuses_by_state, IsExact}
 use Rattle.vault_traits.specs.Counts.{Rose}
-use Rattle.vault_traits.specs.Crash.{LeavesNowIfTold, LeavesOnlyIfTold}
-use Rattle.deletion_laws.specs.Deleting.{IsDeleting}
-use Rattle.vault_types.specs.RecipeForms.{KeepsRecipes}
+use Rattle.vault_traits.specs.Crash.{LeavesNowIfTold}
 use Rattle.keeper_catalog.specs.Catalog.{Memo}
 use Rattle.keeper_catalog.specs.View.{View, Keeps, HasCore}
 use Rattle.keeper_core.specs.Calls.{IsHalf, IsStill, IsDeletionFault, IsShelfFault}
+use Rattle.keeper_core.specs.Deletes.{DeletesThrough}
 use Rattle.store_model.specs.Calls.{DeletesLine}
 use Rattle.store_model.specs.Causes.{CausesRise, fits, counts_of_shelf}
 use Rattle.store_model.specs.Complete.{IsWellAnswered}
@@ -31,9 +30,9 @@ use Rattle.vault_traits.proofs.Moments.{ends}
 use Rattle.deletion_laws.proofs.Keeping.{delete_valid}
 use Rattle.script_laws.proofs.Staying.{below_set}
 use Rattle.script_laws.proofs.LineLemmas.{unmoved}
-use Rattle.serial_delete.specs.Keeping.{IsStateWith, IsKnownStray}
+use Rattle.keeper_core.specs.Keeping.{IsStateWith, IsKnownStray}
 use Rattle.script_laws.proofs.Forms.{shrunk_forms, still_forms}
-use Rattle.serial_delete.proofs.Keeping.{changed_of, images_of}
+use Rattle.keeper_core.proofs.BetweenLines.{changed_of, images_of}
 use Rattle.serial_delete.proofs.Crashes.{still_bears, half_bears, half_next, done_bears, near_alone}
 
 -- ---- numbers
@@ -64,27 +63,6 @@ own_number s = search Rattle.std.proofs.Common.rules
 
 both : {a b : Bool} → a ≡ true → b ≡ true → (a && b) ≡ true
 both h j = rw (h, j) refl
-
--- ---- the clauses of the call
-
--- what the keeper's deletion ensures
-pub record Clauses (u v : View) (s n : ℕ) (result : Result Answer Fault) : Type 0 where
-  pub core : HasCore u
-  pub ok : IfOk result (λ a. (K : Core) → Keeps u K → (n < latest_of K.state s) × (a ≡ removed K.state s n) × Keeps v (after_delete s n v.memo.strays K))
-  pub err : IfErr result (λ f. (K : Core) → Keeps u K → IsStill u v K ⊎ IsHalf u v (delete_change s n K.state) None f K)
-  pub still : (K : Core) → Keeps u K → latest_of K.state s ≤ n → v ≡ u
-  pub last : (K : Core) → Keeps u K → latest_of K.state s ≤ n → result ≡ Err (fault.LastVersion s n (latest_of K.state s))
-  pub cause : IfErr result (λ f. (K : Core) → Keeps u K → IsDeletionFault u.told.faults v.told.faults (latest_of K.state s ≤ n) f)
-  pub later : u.told.faults ≤ v.told.faults
-  pub memo : IfErr result (λ f. v.memo ≡ u.memo)
-  pub tells : IsSome u.told.blobs → IsSome v.told.blobs
-  pub any_moment : (K : Core) → Keeps u K → LeavesNowIfTold u.told.history (IsNear K.state K.other) → LeavesOnlyIfTold u.told.history v.told.history (λ c. IsNear K.state K.other c ⊎ IsDeleting K.state s n c)
-  pub acknowledged : OnOk result ((K : Core) → Keeps u K → (u.pending ≡ pending.Not → LeavesNowIfTold u.told.history (IsNear K.state K.other)) → LeavesNowIfTold v.told.history (IsNear (delete K.state s n) None))
-  pub due : OnErr result (v.pending ≡ pending.Not → u.pending ≡ pending.Not)
-  pub few : OnOk result (v.told.faults < 2 ^ 64 - 1 → length v.memo.strays + u.told.faults ≤ v.told.faults)
-  pub gets : v.told.gets ≡ u.told.gets
-  pub recipes : OnOk result (IsSome u.told.blobs → (K : Core) → Keeps u K → KeepsRecipes (delete K.state s n) u.told.blobs v.told.blobs)
-  pub all_recipes : OnErr result ((K : Core) → Keeps u K → KeepsRecipes K.state u.told.blobs v.told.blobs)
 
 -- ---- the table of answers
 
@@ -146,7 +124,7 @@ module _ (u v : View) (ps : List Pin) (s n : ℕ) (limits : Limits) where
   goes_from S other a is goes = subst (λ (T : State). Goes v T other a) is.state (subst (λ (o : Option Change). Goes v is.core.state o a) is.change goes)
 
   module _ (K : Core) (keeps : Keeps u K) (no_job : K.job ≡ None) (pinned : K.pins ≡ ps) (told : IsSome u.told.blobs) (changed : IfSome K.other (λ h. IsValid h.state)) (images : u.pending ≡ pending.Not → LeavesNowIfTold u.told.history (IsNear K.state K.other)) where
-    done_goes : (a : Answer) → Clauses u v s n (Ok a) → Goes v K.state K.other a
+    done_goes : (a : Answer) → DeletesThrough s n u v (Ok a) → Goes v K.state K.other a
     done_goes a c = subst (λ (b : Answer). Goes v K.state K.other b) (sym (c.ok K keeps).1) (
       None,
       record { core = after_delete s n v.memo.strays K; keeps = (c.ok K keeps).2; state = refl; change = refl; job = no_job; pins = pinned; told = c.tells told; changed = tt; images = λ e. c.acknowledged K keeps images },
@@ -162,14 +140,14 @@ module _ (u v : View) (ps : List Pin) (s n : ℕ) (limits : Limits) where
       },
     )
 
-    last_goes : (f : Fault) → latest_of K.state s ≤ n → Clauses u v s n (Err f) → Goes v K.state K.other (Refused f)
+    last_goes : (f : Fault) → latest_of K.state s ≤ n → DeletesThrough s n u v (Err f) → Goes v K.state K.other (Refused f)
     last_goes f high c = subst (λ (w : View). Goes w K.state K.other (Refused f)) (sym (c.still K keeps high)) (subst (λ (g : Fault). Goes u K.state K.other (Refused g)) (sym (ap (λ (r : Result Answer Fault). fault_or f r) (c.last K keeps high))) (
       K.other,
       record { core = K; keeps = keeps; state = refl; change = refl; job = no_job; pins = pinned; told = told; changed = changed; images = images },
       unmoved limits (λ _. []) K.state K.other (Delete s n) (fault.LastVersion s n (latest_of K.state s)) (IsKnownStray u) u.told (last_means limits K.state s n high) (last_complete limits K.state s n high) refl,
     ))
 
-    failed_goes : (m : ℕ) → n < latest_of K.state s → Clauses u v s n (Err (fault.StoreFault m)) → Goes v K.state K.other (Refused (fault.StoreFault m))
+    failed_goes : (m : ℕ) → n < latest_of K.state s → DeletesThrough s n u v (Err (fault.StoreFault m)) → Goes v K.state K.other (Refused (fault.StoreFault m))
     failed_goes m low c = ⊎_elim as_before half_done (c.err K keeps)
       where
         stays : (q : Name) → Contains v.memo.strays q → Contains u.memo.strays q
@@ -211,13 +189,13 @@ module _ (u v : View) (ps : List Pin) (s n : ℕ) (limits : Limits) where
           },
         )
 
-    err_goes : (f : Fault) → Clauses u v s n (Err f) → Goes v K.state K.other (Refused f)
+    err_goes : (f : Fault) → DeletesThrough s n u v (Err f) → Goes v K.state K.other (Refused f)
     err_goes f c = ⊎_elim below (λ high. last_goes f high c) (below_or_not n (latest_of K.state s))
       where
         below : n < latest_of K.state s → Goes v K.state K.other (Refused f)
         below low =
             let why = store_fault u.told.faults v.told.faults (latest_of K.state s) n f low (c.cause K keeps) in
-            subst (λ (g : Fault). Goes v K.state K.other (Refused g)) (sym why.1) (failed_goes why.0 low (subst (λ (g : Fault). Clauses u v s n (Err g)) why.1 c))
+            subst (λ (g : Fault). Goes v K.state K.other (Refused g)) (sym why.1) (failed_goes why.0 low (subst (λ (g : Fault). DeletesThrough s n u v (Err g)) why.1 c))
 
 -- ---- an answer of its kind, with its cause
 
@@ -250,22 +228,22 @@ causes_err u v latest s n f last later h = ⊎_elim below above (below_or_not n 
 
 -- ---- the whole
 
-pub deletes : (u v : View) (s n : ℕ) (result : Result Answer Fault) → Clauses u v s n result → (ps : List Pin) → DeletesLine (IsStateWith u ps) (IsStateWith v ps) (IsKnownStray u) (IsKnownStray v) s n u.told v.told result
-deletes u v s n (Ok a) c ps =
-    let K : Core = c.core.0 in
-    let is = (c.ok K c.core.1).1 in
+pub deletes : (u v : View) (s n : ℕ) (result : Result Answer Fault) → HasCore u → DeletesThrough s n u v result → (ps : List Pin) → DeletesLine (IsStateWith u ps) (IsStateWith v ps) (IsKnownStray u) (IsKnownStray v) s n u.told v.told result
+deletes u v s n (Ok a) some c ps =
+    let K : Core = some.0 in
+    let is = (c.ok K some.1).1 in
     record {
       done = ap (λ (b : Answer). is_refused b) is;
       kind = λ limits. kind_done limits s n _ _ a is;
       causes = causes_done u v s n _ _ a is c.later;
       steps = λ S other limits here. goes_from u v ps s n limits S other a here (done_goes u v ps s n limits here.core here.keeps here.job here.pins here.told (changed_of u S other here) (images_of u S other here) a c);
     }
-deletes u v s n (Err f) c ps =
-    let K : Core = c.core.0 in
-    let last : latest_of K.state s ≤ n → f ≡ fault.LastVersion s n (latest_of K.state s) = λ high. ap (λ (r : Result Answer Fault). fault_or f r) (c.last K c.core.1 high) in
+deletes u v s n (Err f) some c ps =
+    let K : Core = some.0 in
+    let last : latest_of K.state s ≤ n → f ≡ fault.LastVersion s n (latest_of K.state s) = λ high. ap (λ (r : Result Answer Fault). fault_or f r) (c.last K some.1 high) in
     record {
       done = tt;
-      kind = λ limits. kind_err limits u.told.faults v.told.faults (latest_of K.state s) s n f last (c.cause K c.core.1);
-      causes = causes_err u v (latest_of K.state s) s n f last c.later (c.cause K c.core.1);
+      kind = λ limits. kind_err limits u.told.faults v.told.faults (latest_of K.state s) s n f last (c.cause K some.1);
+      causes = causes_err u v (latest_of K.state s) s n f last c.later (c.cause K some.1);
       steps = λ S other limits here. goes_from u v ps s n limits S other (Refused f) here (err_goes u v ps s n limits here.core here.keeps here.job here.pins here.told (changed_of u S other here) (images_of u S other here) f c);
     }

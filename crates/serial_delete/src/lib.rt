@@ -6,7 +6,7 @@ ghost use Rattle.std.specs.Prelude.{◌≡◌, ℕ, List, None};
 ghost use Rattle.vault_types.specs.Events.{Pin};
 ghost use Rattle.pin_laws.specs.Following.{Follows};
 ghost use Rattle.store_model.specs.Calls.{DeletesLine};
-ghost use Rattle.serial_delete.specs.Keeping.{IsStateWith, IsKnownStray};
+ghost use Rattle.keeper_core.specs.Keeping.{IsStateWith, IsKnownStray};
 
 use keeper_core::Keeper;
 use vault_traits::Shelf;
@@ -22,7 +22,8 @@ pub fn delete_plain<S: Shelf>(
 ) -> Result<Answer, Fault>
     requires { keeper.old.job ≡ None }
     ensures line { (pins : List Pin) → DeletesLine (IsStateWith keeper.old pins) (IsStateWith keeper.new pins)
-        (IsKnownStray keeper.old) (IsKnownStray keeper.new) set through keeper.old.told keeper.new.told result }
+        (IsKnownStray keeper.old) (IsKnownStray keeper.new) set through keeper.old.told keeper.new.told
+        result }
     ensures same { (keeper.new.job ≡ None) × (keeper.new.pins ≡ keeper.old.pins) }
 
     // Each pin stays, with its containers.

@@ -1,7 +1,6 @@
 -- The cores that a keeper keeps at one moment are of one state.
-use Rattle.std.proofs.Common.{◌≡◌, ◌⊎◌, ⊎_elim, ℕ, ◌+◌, ◌<◌, ◌&&◌, length, true, false, List, Option, Some, None, refl, sym, ap, subst, ◌∙◌, get_or}
+use Rattle.std.proofs.Common.{◌≡◌, ⊎_elim, ℕ, ◌+◌, ◌<◌, ◌&&◌, length, true, false, List, Option, Some, None, refl, sym, ap, subst, ◌∙◌, get_or}
 use Rattle.std.specs.Prelude.{IsSome, IfSome, nat_le}
-use Rattle.std.specs.FinMap as fin
 use Rattle.std.proofs.Math.ListN.{get_or-map}
 use Rattle.vault_types.specs.declared.Pending.{Pending}
 use Rattle.vault_types.specs.declared.Pending.TheVariants.{Not, Opened, FailedFor}

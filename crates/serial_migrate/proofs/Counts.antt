@@ -1,5 +1,5 @@
 -- How many of some versions have their recipes in the first format.
-use Rattle.std.proofs.Common.{◌≡◌, ◌⊎◌, inl, inr, ⊎_elim, ℕ, zero, suc, ◌+◌, ◌-◌, ◌≤◌, List, [], ◌∷◌, ◌++◌, Option, Some, None, refl, sym, ap, subst, ◌∙◌, arith, append_assoc}
+use Rattle.std.proofs.Common.{◌≡◌, ◌⊎◌, inl, inr, ⊎_elim, ℕ, zero, suc, ◌+◌, ◌≤◌, List, [], ◌∷◌, ◌++◌, Option, Some, None, refl, sym, ap, subst, ◌∙◌, arith, append_assoc}
 use Rattle.std.specs.Prelude.{slice_get}
 use Rattle.vault_types.specs.State.{State, KeptVersion, recipe_of}
 use Rattle.vault_types.specs.Blobs.{recipe_bytes_1, recipe_bytes_2}
@@ -7,7 +7,7 @@ use Rattle.vault_types.specs.Shelf.{Blobs, blob_at, recipe_name}
 use Rattle.vault_types.specs.Plans.{requests, IsLeast}
 use Rattle.vault_types.specs.Script.{row_ids}
 use Rattle.vault_types.specs.RecipeForms.{IsSecond}
-use Rattle.store_model.specs.Migrating.{IsFirst, HaveFirst, versions_from}
+use Rattle.store_model.specs.Migrating.{IsInFirstFormat, HaveFirst, versions_from}
 
 abbrev blob_or : List ℕ → Option (List ℕ) → List ℕ
 blob_or other (Some x) = x
@@ -18,7 +18,7 @@ byte_or (Some x) = x
 byte_or None = 0
 
 -- no recipe is in both formats
-pub first_or_second : (told : Option Blobs) (s v : ℕ) (j k : KeptVersion) → IsFirst told s v j → IsSecond told s v k → ⊥
+pub first_or_second : (told : Option Blobs) (s v : ℕ) (j k : KeptVersion) → IsInFirstFormat told s v j → IsSecond told s v k → ⊥
 first_or_second told s v j k first second =
     let same : recipe_bytes_1 (recipe_of s v j) ≡ recipe_bytes_2 k.sum (recipe_of s v k) = ap (blob_or []) (sym first ∙ second) in
     let digit : 49 ≡ 50 = ap (λ (l : List ℕ). byte_or (slice_get l 3)) same in

@@ -1,7 +1,6 @@
 -- One version: its restore, the put of its recipe, and what both come to.
-use Rattle.std.proofs.Common.{◌≡◌, ◌⊎◌, inl, inr, ⊎_elim, ℕ, ◌+◌, ◌≤◌, ◌<◌, true, false, IsTrue, length, map, List, [], ◌∷◌, ◌++◌, Option, Some, None, refl, sym, ap, subst, ◌∙◌, arith}
-use Rattle.std.specs.Prelude.{◌≢◌, IsSome, IfSome, IfOk, IfErr, OnOk, OnErr, Result, Ok, Err, Contains, is_some}
-use Rattle.std.specs.FinMap as fin
+use Rattle.std.proofs.Common.{◌≡◌, ◌⊎◌, inl, inr, ⊎_elim, ℕ, ◌≤◌, ◌<◌, true, false, IsTrue, length, map, List, [], ◌∷◌, ◌++◌, Option, Some, None, refl, sym, ap, subst, ◌∙◌, arith}
+use Rattle.std.specs.Prelude.{IsSome, IfSome, IfOk, IfErr, OnOk, OnErr, Result, Ok, Err, Contains, is_some}
 use Rattle.std.specs.Option.{option_map, option_map_or}
 use Rattle.vault_types.specs.declared.Answer.{Answer}
 use Rattle.vault_types.specs.declared.Answer.TheVariants.{Refused}
@@ -32,16 +31,16 @@ use Rattle.keeper_catalog.specs.View.{View, Keeps, HasCore}
 use Rattle.commit_laws.proofs.Listing.{some_same, none_some}
 use Rattle.state_laws.proofs.Members.{clash}
 use Rattle.keeper_core.specs.Calls.{IsWholeOf, IsPinDamage}
-use Rattle.keeper_core.specs.Replacing.{IsRefused}
+use Rattle.keeper_core.specs.Replacing.{IsRefused, Replaces}
 use Rattle.keeper_core.proofs.Replacings.{version_there, near_wider}
 use Rattle.store_model.specs.Complete.{is_counted}
 use Rattle.vault_types.specs.RecipeForms.{IsSecond}
-use Rattle.store_model.specs.Migrating.{IsFirst, HaveFirst, ShowsDamage}
-use Rattle.vault_types.specs.declared.Pending.TheVariants as pending
-use Rattle.serial_delete.specs.Keeping.{IsStateOf}
-use Rattle.serial_delete.proofs.Keeping.{changed_of, images_of}
+use Rattle.store_model.specs.Migrating.{IsInFirstFormat, HaveFirst, ShowsKeptDamage}
+use Rattle.keeper_core.specs.Keeping.{IsStateOf}
+use Rattle.keeper_core.proofs.BetweenLines.{changed_of, images_of}
 use Rattle.serial_restore.specs.Restoring.{IsRestoreFault, HasStayed, IsRestored, IsCut, WhereTold}
 use Rattle.serial_restore.proofs.Damages.{undamaged, shown}
+use Rattle.serial_restore.proofs.Lines.{recipe_wrong, payload_bad}
 use Rattle.serial_migrate.specs.Going.{IsLaterOf, IsMigrateFault, LeavesOne, LoadsLeast, Summed, PutAgain, Stopped, Went, Halted, without_write}
 use Rattle.serial_migrate.proofs.Alike.{kept_alike, one_state, told_back}
 use Rattle.serial_migrate.proofs.Counts.{first_or_second, least_same}
@@ -146,7 +145,7 @@ module _ (u w : View) (before now : SinkTold) (s n : ℕ) (result : Result Answe
       let taken : now.taken ≡ Some (bytes_of K.state s n) = done.taken ∙ ap (λ (o : Option (List ℕ)). option_map (λ y. y ++ bytes_of K.state s n) o) first in
       ap fp (some_same x (bytes_of K.state s n) (sym last ∙ taken)) ∙ done.sum
 
-  stopped_as : (f : Fault) → result ≡ Err f → (g : Fault) → (S : State) (other : Option Change) → IsStateOf u S other → ShowsDamage S (Refused g) → (IsSound S → IsFine g) → Stopped u w S other s n g
+  stopped_as : (f : Fault) → result ≡ Err f → (g : Fault) → (S : State) (other : Option Change) → IsStateOf u S other → ShowsKeptDamage S (Refused g) → (IsSound S → IsFine g) → Stopped u w S other s n g
   stopped_as f is g S other here damage sound =
       let k = version_is here.core here.keeps in
       let cut = subst (λ (x : Result Answer Fault). OnErr x (WhereTold u s n (λ K j. IsCut u w before now K s n j 16))) is r.err here.told here.core k.0 here.keeps k.1 in
@@ -164,11 +163,11 @@ module _ (u w : View) (before now : SinkTold) (s n : ℕ) (result : Result Answe
   cause_is f is = subst (λ (x : Result Answer Fault). IfErr x (λ g. (K : Core) → Keeps u K → IsRestoreFault u w before now K.state s n g)) is r.cause
 
   -- what the shelf's answers show of damage
-  damage_here : (d : Kind) (i : ℕ) (y : Why) (S : State) (other : Option Change) (here : IsStateOf u S other) → IsRestoreFault u w before now here.core.state s n (fault.Damaged d i y) → ShowsDamage S (Refused (fault.Damaged d i y))
+  damage_here : (d : Kind) (i : ℕ) (y : Why) (S : State) (other : Option Change) (here : IsStateOf u S other) → IsRestoreFault u w before now here.core.state s n (fault.Damaged d i y) → ShowsKeptDamage S (Refused (fault.Damaged d i y))
   damage_here d i y S other here h =
       let k = version_is here.core here.keeps in
       let is = shown u here.core here.keeps here.told s n (below here.core here.keeps) k.0 k.1 d i y h in
-      subst (λ (T : State). ShowsDamage T (Refused (fault.Damaged d i y))) here.state (s, n, k.0, k.1, is.0, is.1)
+      subst (λ (T : State). ShowsKeptDamage T (Refused (fault.Damaged d i y))) here.state (s, n, k.0, k.1, is.0, is.1)
 
   pub stopped_here : (f : Fault) → result ≡ Err f → (S : State) (other : Option Change) → IsStateOf u S other → Stopped u w S other s n (without_write f)
   stopped_here (fault.StoreFault i) is S other here = stopped_as (fault.StoreFault i) is (fault.StoreFault i) S other here tt (λ sound. inr refl)
@@ -184,8 +183,8 @@ module _ (u w : View) (before now : SinkTold) (s n : ℕ) (result : Result Answe
   pub fault_here : (f : Fault) → result ≡ Err f → IsMigrateFault u w (without_write f)
   fault_here (fault.StoreFault i) is = cause_is (fault.StoreFault i) is r.core.0 r.core.1
   fault_here (fault.WriteFault i) is = tt
-  fault_here (fault.Damaged kind.Recipe i y) is = tt
-  fault_here (fault.Damaged kind.Payload i y) is = tt
+  fault_here (fault.Damaged kind.Recipe i y) is = recipe_wrong u.told.blobs r.core.0.state s n i y (cause_is (fault.Damaged kind.Recipe i y) is r.core.0 r.core.1)
+  fault_here (fault.Damaged kind.Payload i y) is = payload_bad u.told.blobs r.core.0.state s n i y (cause_is (fault.Damaged kind.Payload i y) is r.core.0 r.core.1)
   fault_here (fault.Damaged kind.Table i y) is = absurd (⊎_elim (λ pin. pin) (λ e. ⊎_elim (λ bad. bad.2) (λ wrong. wrong) e) (cause_is (fault.Damaged kind.Table i y) is r.core.0 r.core.1))
   fault_here (fault.Damaged kind.Floor i y) is = absurd (⊎_elim (λ pin. pin) (λ e. ⊎_elim (λ bad. bad.2) (λ wrong. wrong) e) (cause_is (fault.Damaged kind.Floor i y) is r.core.0 r.core.1))
   fault_here fault.Memory is = tt
@@ -209,14 +208,14 @@ pin_of_recipe told S s n d i y h = absurd h
 
 -- a fault of a read or of a put, which read the recipe
 module _ (u w : View) (s n : ℕ) (range : s < 256) (kept : (K : Core) → Keeps u K → is_kept K.state s n ≡ true) where
-  read_damage : (d : Kind) (i : ℕ) (y : Why) (S : State) (other : Option Change) → IsStateOf u S other → IsRecipeDamage u.told.blobs s n d i y → ShowsDamage S (Refused (fault.Damaged d i y))
+  read_damage : (d : Kind) (i : ℕ) (y : Why) (S : State) (other : Option Change) → IsStateOf u S other → IsRecipeDamage u.told.blobs s n d i y → ShowsKeptDamage S (Refused (fault.Damaged d i y))
   read_damage d i y S other here h =
       let k = version_there here.core.state s n here.keeps.core.state (kept here.core here.keeps) in
       let sets = here.keeps.core.state.sets in
       let is = shown u here.core here.keeps here.told s n (omega (arith, range, sets)) k.0 k.1 d i y (inl (pin_of_recipe u.told.blobs here.core.state s n d i y h)) in
-      subst (λ (T : State). ShowsDamage T (Refused (fault.Damaged d i y))) here.state (s, n, k.0, k.1, is.0, is.1)
+      subst (λ (T : State). ShowsKeptDamage T (Refused (fault.Damaged d i y))) here.state (s, n, k.0, k.1, is.0, is.1)
 
-  pub read_shows : (f : Fault) → IsCause u.told.faults w.told.faults (IsRecipeDamage u.told.blobs s n) f → (S : State) (other : Option Change) → IsStateOf u S other → ShowsDamage S (Refused f) × (IsSound S → IsFine f)
+  pub read_shows : (f : Fault) → IsCause u.told.faults w.told.faults (IsRecipeDamage u.told.blobs s n) f → (S : State) (other : Option Change) → IsStateOf u S other → ShowsKeptDamage S (Refused f) × (IsSound S → IsFine f)
   read_shows (fault.StoreFault i) h S other here = (tt, λ sound. inr refl)
   read_shows (fault.Damaged d i y) h S other here =
       let damage = read_damage d i y S other here h in
@@ -226,26 +225,17 @@ module _ (u w : View) (s n : ℕ) (range : s < 256) (kept : (K : Core) → Keeps
 
   pub read_fault : (f : Fault) → IsCause u.told.faults w.told.faults (IsRecipeDamage u.told.blobs s n) f → IsMigrateFault u w f
   read_fault (fault.StoreFault i) h = (subst (Rose u.told.faults) (sym h.0) h.1, omega (arith, h.0))
-  read_fault (fault.Damaged kind.Recipe i y) h = tt
+  read_fault (fault.Damaged kind.Recipe i why.Absent) h = refl
+  read_fault (fault.Damaged kind.Recipe i why.Spelling) h = refl
+  read_fault (fault.Damaged kind.Recipe i y) h = absurd h.1
   read_fault (fault.Damaged kind.Table i y) h = absurd h
   read_fault (fault.Damaged kind.Payload i y) h = absurd h
   read_fault (fault.Damaged kind.Floor i y) h = absurd h
   read_fault fault.Memory h = tt
   read_fault f h = absurd h
 
--- what a put ensures in every case
-pub record IsReplace (w x : View) (s n : ℕ) : Type 0 where
-  pub others : (K : Core) → Keeps w K → (t m : ℕ) → m ≤ latest_of K.state t → recipe_name t m ≢ recipe_name s n → blob_at x.told.blobs (recipe_name t m) ≡ blob_at w.told.blobs (recipe_name t m)
-  pub own : (K : Core) (k : KeptVersion) → Keeps w K → version_of K.state s n ≡ Some k
-      → (blob_at x.told.blobs (recipe_name s n) ≡ blob_at w.told.blobs (recipe_name s n)) ⊎ (blob_at x.told.blobs (recipe_name s n) ≡ Some (recipe_bytes_2 k.sum (recipe_of s n k)))
-  pub tells : IsSome w.told.blobs → IsSome x.told.blobs
-  pub any_moment : (K : Core) → Keeps w K → LeavesNowIfTold w.told.history (IsNear K.state K.other) → LeavesOnlyIfTold w.told.history x.told.history (IsNear K.state K.other)
-  pub settled : (K : Core) → Keeps w K → (w.pending ≡ pending.Not → LeavesNowIfTold w.told.history (IsNear K.state K.other)) → x.pending ≡ pending.Not → LeavesNowIfTold x.told.history (IsNear K.state None)
-  pub same : (x.memo ≡ w.memo) × (x.index ≡ w.index) × (x.pins ≡ w.pins) × (x.job ≡ w.job)
-  pub gets : x.told.gets ≡ w.told.gets
-
 -- behind a restore
-module _ (u w x : View) (s n : ℕ) (p : IsReplace w x s n) (S : State) (other : Option Change) (summed : Summed u w S other s n) where
+module _ {T : Type 0} (u w x : View) (s n : ℕ) (r : Result T Fault) (p : Replaces s n w x r) (S : State) (other : Option Change) (summed : Summed u w S other s n) where
   abbrev mid : IsStateOf w S other
   mid = summed.leaves.keeps
 
@@ -283,7 +273,7 @@ module _ (u w x : View) (s n : ℕ) (p : IsReplace w x s n) (S : State) (other :
         behind = λ now. subst (λ (T : State). LeavesNowIfTold x.told.history (IsNear T None)) mid.state (acknowledged K mid.keeps);
       }
 
-  pub put_stopped : (f : Fault) → ((J : Core) → Keeps w J → IsRefused x J) → ShowsDamage S (Refused f) × (IsSound S → IsFine f) → Stopped u x S other s n f
+  pub put_stopped : (f : Fault) → ((J : Core) → Keeps w J → IsRefused x J) → ShowsKeptDamage S (Refused f) × (IsSound S → IsFine f) → Stopped u x S other s n f
   put_stopped f err shows =
       let refused = err K mid.keeps in
       record {
@@ -308,29 +298,27 @@ later_of u v w one two = record { later = (let a = one.later in let b = two.late
 
 pub fault_of : (u v w : View) (f : Fault) → u.told.faults ≤ v.told.faults → IsMigrateFault v w f → IsMigrateFault u w f
 fault_of u v w (fault.StoreFault i) low h = (let rose = h.0 in omega (arith, rose, low), h.1)
-fault_of u v w (fault.Damaged kind.Recipe i y) low h = tt
-fault_of u v w (fault.Damaged kind.Payload i y) low h = tt
+fault_of u v w (fault.Damaged kind.Recipe i y) low h = h
+fault_of u v w (fault.Damaged kind.Payload i y) low h = h
 fault_of u v w fault.Memory low h = tt
 fault_of u v w f low h = absurd h
 
 -- in each state that is kept, from the results of the calls
-module _ (u w x : View) (s n : ℕ) (p : IsReplace w x s n) (each : (S : State) (other : Option Change) → IsStateOf u S other → Summed u w S other s n) where
-  pub put_results : {T : Type 0} (r : Result T Fault) → OnOk r ((J : Core) → Keeps w J → Keeps x (after_mend J.strays J))
-      → OnOk r ((J : Core) (k : KeptVersion) → Keeps w J → version_of J.state s n ≡ Some k → Has x.told.blobs (recipe_name s n) (Some (recipe_bytes_2 k.sum (recipe_of s n k))))
-      → OnOk r ((J : Core) → Keeps w J → LeavesNowIfTold x.told.history (IsNear J.state None)) → OnOk r ((S : State) (other : Option Change) → IsStateOf u S other → PutAgain u x S other s n)
-  put_results (Ok y) ok spelled acknowledged = λ S other here. put_done u w x s n p S other (each S other here) ok spelled acknowledged
-  put_results (Err f) ok spelled acknowledged = tt
+module _ (u w x : View) (s n : ℕ) where
+  pub put_results : {T : Type 0} (r : Result T Fault) → Replaces s n w x r → ((S : State) (other : Option Change) → IsStateOf u S other → Summed u w S other s n) → OnOk r ((S : State) (other : Option Change) → IsStateOf u S other → PutAgain u x S other s n)
+  put_results (Ok y) p each = λ S other here. put_done u w x s n (Ok y) p S other (each S other here) p.ok p.spelled p.acknowledged
+  put_results (Err f) p each = tt
 
-  pub put_refusals : {T : Type 0} (r : Result T Fault) → s < 256 → ((K : Core) → Keeps w K → is_kept K.state s n ≡ true) → OnErr r ((J : Core) → Keeps w J → IsRefused x J) → IfErr r (IsCause w.told.faults x.told.faults (IsRecipeDamage w.told.blobs s n))
+  pub put_refusals : {T : Type 0} (r : Result T Fault) → Replaces s n w x r → ((S : State) (other : Option Change) → IsStateOf u S other → Summed u w S other s n) → s < 256 → ((K : Core) → Keeps w K → is_kept K.state s n ≡ true)
       → IfErr r (λ f. (S : State) (other : Option Change) → IsStateOf u S other → Stopped u x S other s n f)
-  put_refusals (Ok y) range kept err causes = tt
-  put_refusals (Err f) range kept err causes = λ S other here.
+  put_refusals (Ok y) p each range kept = tt
+  put_refusals (Err f) p each range kept = λ S other here.
       let summed = each S other here in
-      put_stopped u w x s n p S other summed f err (read_shows w x s n range kept f causes S other summed.leaves.keeps)
+      put_stopped u w x s n (Err f) p S other summed f p.err (read_shows w x s n range kept f p.causes.each S other summed.leaves.keeps)
 
-  pub put_faults : {T : Type 0} (r : Result T Fault) → u.told.faults ≤ w.told.faults → s < 256 → ((K : Core) → Keeps w K → is_kept K.state s n ≡ true) → IfErr r (IsCause w.told.faults x.told.faults (IsRecipeDamage w.told.blobs s n)) → IfErr r (IsMigrateFault u x)
-  put_faults (Ok y) low range kept causes = tt
-  put_faults (Err f) low range kept causes = fault_of u w x f low (read_fault w x s n range kept f causes)
+  pub put_faults : {T : Type 0} (r : Result T Fault) → Replaces s n w x r → u.told.faults ≤ w.told.faults → s < 256 → ((K : Core) → Keeps w K → is_kept K.state s n ≡ true) → IfErr r (IsMigrateFault u x)
+  put_faults (Ok y) p low range kept = tt
+  put_faults (Err f) p low range kept = fault_of u w x f low (read_fault w x s n range kept f p.causes.each)
 
 -- a whole that is not there
 pub no_whole : (o : Option Fp) → is_some o ≡ false → IsSome o → ⊥
@@ -362,7 +350,7 @@ module _ (u v : View) (s n : ℕ) (read : IsRead u v) (S : State) (other : Optio
     any_moment = λ now. stays (IsNear S other) u.told.history v.told.history read.shelf.1 now;
   }
 
-  pub read_halted : (f : Fault) → ShowsDamage S (Refused f) × (IsSound S → IsFine f) → Halted u v S other s n f
+  pub read_halted : (f : Fault) → ShowsKeptDamage S (Refused f) × (IsSound S → IsFine f) → Halted u v S other s n f
   read_halted f shows = record {
     stopped = record { next = other; leaves = read_leaves; loads = 0; few = λ least is. omega arith; gets = read.shelf.2; damage = shows.0; sound = shows.1 };
     few = λ recipes least have. omega arith;
@@ -395,7 +383,7 @@ module _ (u v : View) (s n : ℕ) (read : IsRead u v) (S : State) (other : Optio
 
   -- it is in the first, and was put again
   first_is : (whole : Option Fp) → (IsSome whole → ⊥) → (IsSome u.told.blobs → (K : Core) (k : KeptVersion) → Keeps u K → version_of K.state s n ≡ Some k → IsWholeOf u.told.blobs s n k whole)
-      → (j : KeptVersion) → version_of S s n ≡ Some j → IsFirst u.told.blobs s n j
+      → (j : KeptVersion) → version_of S s n ≡ Some j → IsInFirstFormat u.told.blobs s n j
   first_is whole none says j at = ⊎_elim
       (λ is. absurd (none (subst (λ (o : Option Fp). IsSome o) (sym is.0) refl)))
       (λ is. told_at u.told.blobs (recipe_name s n) (Some (recipe_bytes_1 (recipe_of s n j))) here.told is.1)

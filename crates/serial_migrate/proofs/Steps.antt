@@ -4,7 +4,6 @@ use Rattle.std.specs.Prelude.{◌≢◌, ◌&&◌, IsErrAnd, IfErr, Result, Ok, 
 use Rattle.std.proofs.lemmas.Bool.Decides.{nat_tests}
 use Rattle.std.proofs.lemmas.List.{append-nil}
 use Rattle.vault_types.specs.declared.Fault.{Fault}
-use Rattle.vault_types.specs.declared.Fault.TheVariants as fault
 use Rattle.vault_types.specs.State.{State, KeptVersion, dataset, floor_of, latest_of, is_kept, version_of, IsValid}
 use Rattle.vault_types.specs.Shelf.{Blobs, blob_at, recipe_name}
 use Rattle.vault_types.specs.Events.{Core, Change, IsNear}
@@ -18,8 +17,9 @@ use Rattle.keeper_core.proofs.Replacings.{version_there}
 use Rattle.script_laws.proofs.Rising.{counted_up_twice}
 use Rattle.vault_types.specs.RecipeForms.{IsSecond}
 use Rattle.store_model.specs.Migrating.{HaveFirst, kept_versions, versions_from, versions_below}
-use Rattle.serial_delete.specs.Keeping.{IsStateOf}
-use Rattle.serial_migrate.specs.Going.{LeavesOne, Went, Halted, IsBefore, Gone, AllDone, HasEndedBy}
+use Rattle.keeper_core.specs.Keeping.{IsStateOf}
+use Rattle.vault_types.specs.FirstDamage.{IsBefore}
+use Rattle.serial_migrate.specs.Going.{LeavesOne, Went, Halted, Gone, AllDone, HasEndedBy}
 use Rattle.serial_migrate.proofs.Counts.{have_append, have_split, have_same, have_head, have_moved, from_goes_on}
 
 -- ---- the state that is kept
@@ -44,9 +44,9 @@ change_before other mid next (inr is) (inr same) = inr (same ∙ is)
 -- ---- places among versions
 
 data Compared (set number s n : ℕ) : Type 0 where
-  Before : IsBefore set number s n → Compared set number s n
+  Before : IsBefore s n set number → Compared set number s n
   At : s ≡ set → n ≡ number → Compared set number s n
-  Behind : (IsBefore set (number + 1) s n → ⊥) → Compared set number s n
+  Behind : (IsBefore s n set (number + 1) → ⊥) → Compared set number s n
 
 below_or_not : (a b : ℕ) → (a < b) ⊎ (b ≤ a)
 below_or_not a b = by_test (nat_lt a b) refl
@@ -71,7 +71,7 @@ compare set number s n = by_set (three s set)
     by_set (inr (inl same)) = by_number same (three n number)
     by_set (inr (inr high)) = Behind (λ before. ⊎_elim (λ (low : s < set). absurd (omega (arith, low, high))) (λ (both : (s ≡ set) × (n < number + 1)). absurd (omega (arith, both.0, high))) before)
 
-before_more : (set number s n : ℕ) → IsBefore set number s n → IsBefore set (number + 1) s n
+before_more : (set number s n : ℕ) → IsBefore s n set number → IsBefore s n set (number + 1)
 before_more set number s n (inl low) = inl low
 before_more set number s n (inr both) = inr (both.0, omega (arith, both.1))
 
@@ -79,7 +79,7 @@ not_itself : (set number : ℕ) → IsBefore set number set number → ⊥
 not_itself set number (inl low) = omega (arith, low)
 not_itself set number (inr both) = omega (arith, both.1)
 
-at_itself : (set number : ℕ) → IsBefore set (number + 1) set number
+at_itself : (set number : ℕ) → IsBefore set number set (number + 1)
 at_itself set number = inr (refl, omega arith)
 
 -- two kept versions have two names
@@ -106,11 +106,11 @@ module _ (u v w : View) (S : State) (other : Option Change) (set number : ℕ) (
     other_stays : (s n : ℕ) (j : KeptVersion) → version_of S s n ≡ Some j → (s ≡ set → n ≡ number → ⊥) → blob_at w.told.blobs (recipe_name s n) ≡ blob_at v.told.blobs (recipe_name s n)
     other_stays s n j is differ = leaves.others s n (version_high S s n j is) (names_apart S valid s n set number j k is kept differ)
 
-    before_differs : (s n : ℕ) → IsBefore set number s n → s ≡ set → n ≡ number → ⊥
+    before_differs : (s n : ℕ) → IsBefore s n set number → s ≡ set → n ≡ number → ⊥
     before_differs s n (inl low) one two = omega (arith, low, one)
     before_differs s n (inr both) one two = omega (arith, both.1, two)
 
-    behind_differs : (s n : ℕ) → (IsBefore set (number + 1) s n → ⊥) → s ≡ set → n ≡ number → ⊥
+    behind_differs : (s n : ℕ) → (IsBefore s n set (number + 1) → ⊥) → s ≡ set → n ≡ number → ⊥
     behind_differs s n not one two = not (inr (one, omega (arith, two)))
 
     moments : LeavesNowIfTold u.told.history (IsNear S other) → LeavesOnlyIfTold u.told.history w.told.history (IsNear S other)
@@ -120,10 +120,10 @@ module _ (u v w : View) (S : State) (other : Option Change) (set number : ℕ) (
     changes : (next ≡ None) ⊎ (next ≡ other)
     changes = change_before other gone.next next gone.next_other leaves.next_other
 
-    second_still : (s n : ℕ) (j : KeptVersion) → version_of S s n ≡ Some j → IsBefore set number s n → IsSecond w.told.blobs s n j
+    second_still : (s n : ℕ) (j : KeptVersion) → version_of S s n ≡ Some j → IsBefore s n set number → IsSecond w.told.blobs s n j
     second_still s n j is before = other_stays s n j is (before_differs s n before) ∙ gone.done s n j is before
 
-    rest_still : (s n : ℕ) (j : KeptVersion) → version_of S s n ≡ Some j → (IsBefore set (number + 1) s n → ⊥) → blob_at w.told.blobs (recipe_name s n) ≡ blob_at u.told.blobs (recipe_name s n)
+    rest_still : (s n : ℕ) (j : KeptVersion) → version_of S s n ≡ Some j → (IsBefore s n set (number + 1) → ⊥) → blob_at w.told.blobs (recipe_name s n) ≡ blob_at u.told.blobs (recipe_name s n)
     rest_still s n j is not = other_stays s n j is (behind_differs s n not) ∙ gone.rest s n j is (λ before. not (before_more set number s n before))
 
     form_of : (s n : ℕ) (j : KeptVersion) → version_of S s n ≡ Some j → Compared set number s n → (blob_at w.told.blobs (recipe_name s n) ≡ blob_at u.told.blobs (recipe_name s n)) ⊎ IsSecond w.told.blobs s n j
@@ -156,7 +156,7 @@ module _ (u v w : View) (S : State) (other : Option Change) (set number : ℕ) (
       own_second s n j one two = subst (λ (t : ℕ). version_of S t n ≡ Some j → IsSecond w.told.blobs t n j) (sym one)
           (subst (λ (m : ℕ). version_of S set m ≡ Some j → IsSecond w.told.blobs set m j) (sym two) (λ at. went.second j at))
 
-      second_at : (s n : ℕ) (j : KeptVersion) → version_of S s n ≡ Some j → IsBefore set (number + 1) s n → Compared set number s n → IsSecond w.told.blobs s n j
+      second_at : (s n : ℕ) (j : KeptVersion) → version_of S s n ≡ Some j → IsBefore s n set (number + 1) → Compared set number s n → IsSecond w.told.blobs s n j
       second_at s n j is before (Before first) = second_still went.next went.leaves s n j is first
       second_at s n j is before (At one two) = own_second s n j one two is
       second_at s n j is before (Behind not) = absurd (not before)
@@ -212,8 +212,8 @@ pub record InSet (u v : View) (S : State) (other : Option Change) (set number re
 
 -- the place is told in another way
 module _ (u v : View) (S : State) (other : Option Change) (set number t m recipes : ℕ) (versions ws : List (ℕ × ℕ)) (same : versions ≡ ws)
-    (there : (s n : ℕ) (j : KeptVersion) → version_of S s n ≡ Some j → IsBefore t m s n → IsBefore set number s n)
-    (back : (s n : ℕ) (j : KeptVersion) → version_of S s n ≡ Some j → IsBefore set number s n → IsBefore t m s n) where
+    (there : (s n : ℕ) (j : KeptVersion) → version_of S s n ≡ Some j → IsBefore s n t m → IsBefore s n set number)
+    (back : (s n : ℕ) (j : KeptVersion) → version_of S s n ≡ Some j → IsBefore s n set number → IsBefore s n t m) where
   replaced : Gone u v S other set number versions recipes → Gone u v S other t m ws recipes
   replaced gone = record {
     next = gone.next;
@@ -244,14 +244,14 @@ enter_set u v S other set recipes floor is gone =
     lists : versions_below S set ≡ up_to S set floor
     lists = sym (ap (λ (i : ℕ). versions_below S set ++ versions_from set (floor_of S set) i) none ∙ append-nil (versions_below S set))
 
-    there : (s n : ℕ) (j : KeptVersion) → version_of S s n ≡ Some j → IsBefore set floor s n → IsBefore set 0 s n
+    there : (s n : ℕ) (j : KeptVersion) → version_of S s n ≡ Some j → IsBefore s n set floor → IsBefore s n set 0
     there s n j at (inl low) = inl low
     there s n j at (inr both) =
         let low = version_low S s n j at in
         let floors : floor_of S s ≡ floor = ap (floor_of S) both.0 ∙ sym is in
         absurd (omega (arith, low, both.1, floors))
 
-    back : (s n : ℕ) (j : KeptVersion) → version_of S s n ≡ Some j → IsBefore set 0 s n → IsBefore set floor s n
+    back : (s n : ℕ) (j : KeptVersion) → version_of S s n ≡ Some j → IsBefore s n set 0 → IsBefore s n set floor
     back s n j at (inl low) = inl low
     back s n j at (inr both) = absurd (omega (arith, both.1))
 
@@ -264,7 +264,7 @@ leave_set u v S other set number recipes over here = replaced u v S other set nu
     lists : up_to S set number ≡ versions_below S (set + 1)
     lists = ap (λ (i : ℕ). versions_below S set ++ versions_from set (floor_of S set) i) many ∙ ap (versions_below S) (let e : suc set ≡ set + 1 = omega arith in e)
 
-    there : (s n : ℕ) (j : KeptVersion) → version_of S s n ≡ Some j → IsBefore (set + 1) 0 s n → IsBefore set number s n
+    there : (s n : ℕ) (j : KeptVersion) → version_of S s n ≡ Some j → IsBefore s n (set + 1) 0 → IsBefore s n set number
     there s n j at (inr both) = absurd (omega (arith, both.1))
     there s n j at (inl low) = ⊎_elim
         (λ below. inl below)
@@ -275,7 +275,7 @@ leave_set u v S other set number recipes over here = replaced u v S other set nu
         inr (same, omega (arith, latest, one, over)))
         (below_or_not s set)
 
-    back : (s n : ℕ) (j : KeptVersion) → version_of S s n ≡ Some j → IsBefore set number s n → IsBefore (set + 1) 0 s n
+    back : (s n : ℕ) (j : KeptVersion) → version_of S s n ≡ Some j → IsBefore s n set number → IsBefore s n (set + 1) 0
     back s n j at (inl low) = inl (omega (arith, low))
     back s n j at (inr both) = inl (omega (arith, both.0))
 

@@ -14,7 +14,7 @@ use Rattle.vault_traits.specs.Crash.{LeavesNowIfTold}
 use Rattle.keeper_catalog.specs.View.{View}
 use Rattle.store_model.specs.Causes.{CausesRise, counts_of_shelf}
 use Rattle.store_model.specs.Migrating.{GetsOf, MigratesIn, BearsMigration, MigratesStore, HaveFirst, fits_migrate, kept_versions}
-use Rattle.serial_delete.specs.Keeping.{IsStateOf, IsKnownStray}
+use Rattle.keeper_core.specs.Keeping.{IsStateOf, IsKnownStray}
 use Rattle.serial_migrate.specs.Going.{IsLaterOf, IsMigrateFault, AllDone, HasEndedBy}
 
 module _ (u v : View) where
@@ -70,8 +70,8 @@ module _ (u v : View) where
 
   kind_of : (f : Fault) → IsMigrateFault u v f → IsTrue (fits_migrate (Refused f))
   kind_of (fault.StoreFault i) h = refl
-  kind_of (fault.Damaged kind.Recipe i y) h = refl
-  kind_of (fault.Damaged kind.Payload i y) h = refl
+  kind_of (fault.Damaged kind.Recipe i y) h = h
+  kind_of (fault.Damaged kind.Payload i y) h = h
   kind_of fault.Memory h = refl
   kind_of f h = absurd h
 

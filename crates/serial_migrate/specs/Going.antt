@@ -14,10 +14,12 @@ use Rattle.vault_types.specs.Script.{row_ids}
 use Rattle.vault_traits.specs.Counts.{counted_up, Rose}
 use Rattle.vault_traits.specs.Crash.{LeavesNowIfTold, LeavesOnlyIfTold}
 use Rattle.keeper_catalog.specs.View.{View}
+use Rattle.store_model.specs.Causes.{may_be_wrong}
 use Rattle.store_model.specs.Complete.{is_counted}
 use Rattle.vault_types.specs.RecipeForms.{IsSecond}
-use Rattle.store_model.specs.Migrating.{HaveFirst, ShowsDamage, kept_versions}
-use Rattle.serial_delete.specs.Keeping.{IsStateOf, IsKnownStray}
+use Rattle.store_model.specs.Migrating.{HaveFirst, ShowsKeptDamage, kept_versions}
+use Rattle.keeper_core.specs.Keeping.{IsStateOf, IsKnownStray}
+use Rattle.vault_types.specs.FirstDamage.{IsBefore}
 
 -- the job and the pins stay, and the count of faults has not fallen
 pub record IsLaterOf (u v : View) : Type 0 where
@@ -28,8 +30,8 @@ pub record IsLaterOf (u v : View) : Type 0 where
 -- why a migration stops: the shelf failed in it, a recipe or a payload is damaged, or there was no memory
 abbrev pub IsMigrateFault : View → View → Fault → Type 0
 IsMigrateFault u v (fault.StoreFault n) = Rose u.told.faults n × (n ≤ v.told.faults)
-IsMigrateFault u v (fault.Damaged kind.Recipe number why) = Unit {0}
-IsMigrateFault u v (fault.Damaged kind.Payload number why) = Unit {0}
+IsMigrateFault u v (fault.Damaged kind.Recipe number why) = IsTrue (may_be_wrong kind.Recipe why)
+IsMigrateFault u v (fault.Damaged kind.Payload number why) = IsTrue (may_be_wrong kind.Payload why)
 IsMigrateFault u v fault.Memory = Unit {0}
 IsMigrateFault u v other = ⊥
 
@@ -38,15 +40,19 @@ abbrev pub without_write : Fault → Fault
 without_write (fault.WriteFault n) = fault.Memory
 without_write other = other
 
--- what is done for one version leaves the state, and the change from before or none. Each recipe of another version has
--- its bytes, and the own one has them or is in the second format
+-- what is done for one version leaves the state, and the change from before or none. Each recipe of
+-- another version has its bytes, and the own one has them or is in the second format
 pub record LeavesOne (u v : View) (S : State) (other next : Option Change) (s n : ℕ) : Type 0 where
   pub keeps : IsStateOf v S next
   pub next_other : (next ≡ None) ⊎ (next ≡ other)
-  pub others : (t m : ℕ) → m ≤ latest_of S t → recipe_name t m ≢ recipe_name s n → blob_at v.told.blobs (recipe_name t m) ≡ blob_at u.told.blobs (recipe_name t m)
-  pub own : (k : KeptVersion) → version_of S s n ≡ Some k → (blob_at v.told.blobs (recipe_name s n) ≡ blob_at u.told.blobs (recipe_name s n)) ⊎ IsSecond v.told.blobs s n k
+  pub others : (t m : ℕ) → m ≤ latest_of S t → recipe_name t m ≢ recipe_name s n
+      → blob_at v.told.blobs (recipe_name t m) ≡ blob_at u.told.blobs (recipe_name t m)
+  pub own : (k : KeptVersion) → version_of S s n ≡ Some k
+      → (blob_at v.told.blobs (recipe_name s n) ≡ blob_at u.told.blobs (recipe_name s n))
+      ⊎ IsSecond v.told.blobs s n k
   pub strays : (q : Name) → IsKnownStray v q → IsKnownStray u q
-  pub any_moment : LeavesNowIfTold u.told.history (IsNear S other) → LeavesOnlyIfTold u.told.history v.told.history (IsNear S other)
+  pub any_moment : LeavesNowIfTold u.told.history (IsNear S other)
+      → LeavesOnlyIfTold u.told.history v.told.history (IsNear S other)
 
 -- payloads are got as often as a restore of the version has loads at least
 pub record LoadsLeast (u v : View) (S : State) (s n : ℕ) : Type 0 where
@@ -65,7 +71,8 @@ pub record PutAgain (u v : View) (S : State) (other : Option Change) (s n : ℕ)
   pub leaves : LeavesOne u v S other None s n
   pub second : (k : KeptVersion) → version_of S s n ≡ Some k → IsSecond v.told.blobs s n k
   pub loads : LoadsLeast u v S s n
-  pub behind : LeavesNowIfTold u.told.history (IsNear S other) → LeavesNowIfTold v.told.history (IsNear S None)
+  pub behind : LeavesNowIfTold u.told.history (IsNear S other)
+      → LeavesNowIfTold v.told.history (IsNear S None)
 
 -- that was refused. Over a sound state there was no memory, or a fault was counted
 pub record Stopped (u v : View) (S : State) (other : Option Change) (s n : ℕ) (f : Fault) : Type 0 where
@@ -74,10 +81,11 @@ pub record Stopped (u v : View) (S : State) (other : Option Change) (s n : ℕ) 
   pub loads : ℕ
   pub few : (least : ℕ) → IsLeast (requests (row_ids S s n)) 16 least → loads ≤ least
   pub gets : v.told.gets ≡ counted_up u.told.gets loads
-  pub damage : ShowsDamage S (Refused f)
+  pub damage : ShowsKeptDamage S (Refused f)
   pub sound : IsSound S → (f ≡ fault.Memory) ⊎ IsTrue (is_counted (Refused f))
 
--- one version was gone through: its recipe is in the second format, and was put again where it was in the first
+-- one version was gone through: its recipe is in the second format, and was put again where it was
+-- in the first
 pub record Went (u v : View) (S : State) (other : Option Change) (s n : ℕ) (put : Bool) : Type 0 where
   pub next : Option Change
   pub leaves : LeavesOne u v S other next s n
@@ -85,27 +93,29 @@ pub record Went (u v : View) (S : State) (other : Option Change) (s n : ℕ) (pu
   pub loads : ℕ
   pub have : HaveFirst u.told.blobs S ((s, n) ∷ []) (if put then 1 else 0) loads
   pub gets : v.told.gets ≡ counted_up u.told.gets loads
-  pub behind : LeavesNowIfTold u.told.history (IsNear S other) → LeavesNowIfTold v.told.history (IsNear S next)
+  pub behind : LeavesNowIfTold u.told.history (IsNear S other)
+      → LeavesNowIfTold v.told.history (IsNear S next)
 
 -- a refusal there: no payload was got where the recipe was in the second format
 pub record Halted (u v : View) (S : State) (other : Option Change) (s n : ℕ) (f : Fault) : Type 0 where
   pub stopped : Stopped u v S other s n f
   pub few : (recipes least : ℕ) → HaveFirst u.told.blobs S ((s, n) ∷ []) recipes least → stopped.loads ≤ least
 
--- a version comes before the one of this number in this set
-abbrev pub IsBefore : ℕ → ℕ → ℕ → ℕ → Type 0
-IsBefore set number s n = (s < set) ⊎ ((s ≡ set) × (n < number))
-
 -- all versions before that one were gone through, which these are
-pub record Gone (u v : View) (S : State) (other : Option Change) (set number : ℕ) (versions : List (ℕ × ℕ)) (recipes : ℕ) : Type 0 where
+pub record Gone (u v : View) (S : State) (other : Option Change) (set number : ℕ) (versions : List (ℕ × ℕ))
+    (recipes : ℕ) : Type 0 where
   pub next : Option Change
   pub keeps : IsStateOf v S next
   pub next_other : (next ≡ None) ⊎ (next ≡ other)
-  pub done : (s n : ℕ) (k : KeptVersion) → version_of S s n ≡ Some k → IsBefore set number s n → IsSecond v.told.blobs s n k
-  pub rest : (s n : ℕ) (k : KeptVersion) → version_of S s n ≡ Some k → (IsBefore set number s n → ⊥) → blob_at v.told.blobs (recipe_name s n) ≡ blob_at u.told.blobs (recipe_name s n)
+  pub done : (s n : ℕ) (k : KeptVersion) → version_of S s n ≡ Some k → IsBefore s n set number
+      → IsSecond v.told.blobs s n k
+  pub rest : (s n : ℕ) (k : KeptVersion) → version_of S s n ≡ Some k → (IsBefore s n set number → ⊥)
+      → blob_at v.told.blobs (recipe_name s n) ≡ blob_at u.told.blobs (recipe_name s n)
   pub strays : (q : Name) → IsKnownStray v q → IsKnownStray u q
-  pub any_moment : LeavesNowIfTold u.told.history (IsNear S other) → LeavesOnlyIfTold u.told.history v.told.history (IsNear S other)
-  pub behind : LeavesNowIfTold u.told.history (IsNear S other) → LeavesNowIfTold v.told.history (IsNear S next)
+  pub any_moment : LeavesNowIfTold u.told.history (IsNear S other)
+      → LeavesOnlyIfTold u.told.history v.told.history (IsNear S other)
+  pub behind : LeavesNowIfTold u.told.history (IsNear S other)
+      → LeavesNowIfTold v.told.history (IsNear S next)
   pub loads : ℕ
   pub have : HaveFirst u.told.blobs S versions recipes loads
   pub gets : v.told.gets ≡ counted_up u.told.gets loads
@@ -119,11 +129,14 @@ pub record HasEndedBy (u v : View) (S : State) (other : Option Change) (f : Faul
   pub next : Option Change
   pub keeps : IsStateOf v S next
   pub next_other : (next ≡ None) ⊎ (next ≡ other)
-  pub forms : (s n : ℕ) (k : KeptVersion) → version_of S s n ≡ Some k → (blob_at v.told.blobs (recipe_name s n) ≡ blob_at u.told.blobs (recipe_name s n)) ⊎ IsSecond v.told.blobs s n k
+  pub forms : (s n : ℕ) (k : KeptVersion) → version_of S s n ≡ Some k
+      → (blob_at v.told.blobs (recipe_name s n) ≡ blob_at u.told.blobs (recipe_name s n))
+      ⊎ IsSecond v.told.blobs s n k
   pub strays : (q : Name) → IsKnownStray v q → IsKnownStray u q
-  pub any_moment : LeavesNowIfTold u.told.history (IsNear S other) → LeavesOnlyIfTold u.told.history v.told.history (IsNear S other)
+  pub any_moment : LeavesNowIfTold u.told.history (IsNear S other)
+      → LeavesOnlyIfTold u.told.history v.told.history (IsNear S other)
   pub loads : ℕ
   pub few : (recipes least : ℕ) → HaveFirst u.told.blobs S (kept_versions S) recipes least → loads ≤ least
   pub gets : v.told.gets ≡ counted_up u.told.gets loads
-  pub damage : ShowsDamage S (Refused f)
+  pub damage : ShowsKeptDamage S (Refused f)
   pub sound : IsSound S → (f ≡ fault.Memory) ⊎ IsTrue (is_counted (Refused f))

@@ -3,7 +3,7 @@ ghost use Rattle.std.specs.Prelude.{◌≡◌, None, Option, IfErr, IfOk};
 ghost use Rattle.vault_types.specs.State.{State};
 ghost use Rattle.vault_types.specs.Events.{Change};
 ghost use Rattle.store_model.specs.Migrating.{MigratesStore};
-ghost use Rattle.serial_delete.specs.Keeping.{IsStateOf, IsKnownStray};
+ghost use Rattle.keeper_core.specs.Keeping.{IsStateOf, IsKnownStray};
 ghost use Rattle.serial_migrate.specs.Going.{IsLaterOf, IsMigrateFault, AllDone, HasEndedBy};
 
 use crate::one::migrate_one;
@@ -16,9 +16,11 @@ use vault_types::{Answer, Fault, Set};
 fn migrate_all<S: Shelf>(alloc: Global, keeper: &mut Keeper<S>) -> Result<u64, Fault>
     requires no_job { keeper.old.job ≡ None }
     ensures later { IsLaterOf keeper.old keeper.new }
-    ensures ok { IfOk result (λ recipes. (T : State) (other : Option Change) → IsStateOf keeper.old T other → AllDone keeper.old keeper.new T other recipes) }
+    ensures ok { IfOk result (λ recipes. (T : State) (other : Option Change) → IsStateOf keeper.old T other
+        → AllDone keeper.old keeper.new T other recipes) }
     ensures cause { IfErr result (IsMigrateFault keeper.old keeper.new) }
-    ensures err { IfErr result (λ f. (T : State) (other : Option Change) → IsStateOf keeper.old T other → HasEndedBy keeper.old keeper.new T other f) }
+    ensures err { IfErr result (λ f. (T : State) (other : Option Change) → IsStateOf keeper.old T other
+        → HasEndedBy keeper.old keeper.new T other f) }
 {
     let mut recipes = 0u64;
     let mut number = 0u16;
@@ -44,7 +46,8 @@ fn migrate_all<S: Shelf>(alloc: Global, keeper: &mut Keeper<S>) -> Result<u64, F
 /// it was or in the second format, and what a failed write may have left is mended by the next call that writes.
 pub fn migrate_plain<S: Shelf>(alloc: Global, keeper: &mut Keeper<S>) -> Result<Answer, Fault>
     requires no_job { keeper.old.job ≡ None }
-    ensures store { MigratesStore (IsStateOf keeper.old) (IsStateOf keeper.new) (IsKnownStray keeper.old) (IsKnownStray keeper.new) keeper.old.told keeper.new.told result }
+    ensures store { MigratesStore (IsStateOf keeper.old) (IsStateOf keeper.new) (IsKnownStray keeper.old)
+        (IsKnownStray keeper.new) keeper.old.told keeper.new.told result }
     ensures same { (keeper.new.job ≡ None) × (keeper.new.pins ≡ keeper.old.pins) }
 {
     let recipes = migrate_all(alloc, keeper)?;

@@ -4,7 +4,7 @@ ghost use Rattle.vault_types.specs.Names.{IsFp};
 ghost use Rattle.vault_types.specs.State.{State, KeptVersion, is_kept, version_of};
 ghost use Rattle.vault_types.specs.Events.{Core, Change};
 ghost use Rattle.keeper_catalog.specs.View.{Keeps};
-ghost use Rattle.serial_delete.specs.Keeping.{IsStateOf};
+ghost use Rattle.keeper_core.specs.Keeping.{IsStateOf};
 ghost use Rattle.serial_migrate.specs.Going.{IsLaterOf, IsMigrateFault, Summed, Stopped, PutAgain, Went, Halted, without_write};
 
 use crate::sum_sink::SumSink;
@@ -35,10 +35,13 @@ fn sum_of<S: Shelf>(
     ensures later { IsLaterOf keeper.old keeper.new }
     ensures sum { IfOk result IsFp }
     ensures kept { (K : Core) → Keeps keeper.new K → IsTrue (is_kept K.state set version) }
-    ensures whole { IfOk result (λ f. IsSome keeper.new.told.blobs → (K : Core) (k : KeptVersion) → Keeps keeper.new K → version_of K.state set version ≡ Some k → f ≡ k.sum) }
-    ensures ok { IfOk result (λ f. (T : State) (other : Option Change) → IsStateOf keeper.old T other → Summed keeper.old keeper.new T other set version) }
+    ensures whole { IfOk result (λ f. IsSome keeper.new.told.blobs → (K : Core) (k : KeptVersion)
+        → Keeps keeper.new K → version_of K.state set version ≡ Some k → f ≡ k.sum) }
+    ensures ok { IfOk result (λ f. (T : State) (other : Option Change) → IsStateOf keeper.old T other
+        → Summed keeper.old keeper.new T other set version) }
     ensures cause { IfErr result (IsMigrateFault keeper.old keeper.new) }
-    ensures err { IfErr result (λ f. (T : State) (other : Option Change) → IsStateOf keeper.old T other → Stopped keeper.old keeper.new T other set version f) }
+    ensures err { IfErr result (λ f. (T : State) (other : Option Change) → IsStateOf keeper.old T other
+        → Stopped keeper.old keeper.new T other set version f) }
 {
     keeper.keeps_some_core();
     let mut sink = SumSink::new(alloc);
@@ -58,9 +61,11 @@ fn put_again<S: Shelf>(
     requires no_job { keeper.old.job ≡ None }
     requires kept { (K : Core) → Keeps keeper.old K → IsTrue (is_kept K.state set version) }
     ensures later { IsLaterOf keeper.old keeper.new }
-    ensures ok { OnOk result ((T : State) (other : Option Change) → IsStateOf keeper.old T other → PutAgain keeper.old keeper.new T other set version) }
+    ensures ok { OnOk result ((T : State) (other : Option Change) → IsStateOf keeper.old T other
+        → PutAgain keeper.old keeper.new T other set version) }
     ensures cause { IfErr result (IsMigrateFault keeper.old keeper.new) }
-    ensures err { IfErr result (λ f. (T : State) (other : Option Change) → IsStateOf keeper.old T other → Stopped keeper.old keeper.new T other set version f) }
+    ensures err { IfErr result (λ f. (T : State) (other : Option Change) → IsStateOf keeper.old T other
+        → Stopped keeper.old keeper.new T other set version f) }
 {
     keeper.keeps_some_core();
     let sum = sum_of(alloc, keeper, set, version)?;
@@ -77,9 +82,11 @@ pub(crate) fn migrate_one<S: Shelf>(
     requires no_job { keeper.old.job ≡ None }
     requires kept { (K : Core) → Keeps keeper.old K → IsTrue (is_kept K.state set version) }
     ensures later { IsLaterOf keeper.old keeper.new }
-    ensures ok { IfOk result (λ put. (T : State) (other : Option Change) → IsStateOf keeper.old T other → Went keeper.old keeper.new T other set version put) }
+    ensures ok { IfOk result (λ put. (T : State) (other : Option Change) → IsStateOf keeper.old T other
+        → Went keeper.old keeper.new T other set version put) }
     ensures cause { IfErr result (IsMigrateFault keeper.old keeper.new) }
-    ensures err { IfErr result (λ f. (T : State) (other : Option Change) → IsStateOf keeper.old T other → Halted keeper.old keeper.new T other set version f) }
+    ensures err { IfErr result (λ f. (T : State) (other : Option Change) → IsStateOf keeper.old T other
+        → Halted keeper.old keeper.new T other set version f) }
 {
     keeper.keeps_some_core();
     let recipe = keeper.recipe(alloc, set, version)?;

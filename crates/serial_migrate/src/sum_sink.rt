@@ -32,7 +32,8 @@ impl Model for SumSink {
 // Adds a snapshot of each byte, as far as there is room, and says of how many.
 fn remember(seen: &mut Vec<Snapshot<u8>>, piece: &[u8]) -> usize
     ensures fits { result ≤ length piece.now }
-    ensures added { map (λ b. b.value) seen.new.items ≡ map (λ b. b.value) seen.old.items ++ take result piece.now }
+    ensures added { map (λ b. b.value) seen.new.items
+        ≡ map (λ b. b.value) seen.old.items ++ take result piece.now }
 {
     let mut count = 0;
     while count < piece.len() {

@@ -52,7 +52,7 @@ fp_of x = record { 0 = x }
 whole_sum : (t : Table) (payload : List ℕ) → IsWhole t payload → fp payload ≡ t.payload_sum
 whole_sum t payload whole = ap (λ (x : List ℕ). fp_of x) whole.3
 
-whole_payload : (t : Table) (o : Option (List ℕ)) → IsSomeAnd o (IsWhole t) → (y : Why) → table.IsPayloadDamage (record { table = t; payload = o }) y → ⊥
+whole_payload : (t : Table) (o : Option (List ℕ)) → IsSomeAnd o (IsWhole t) → (y : Why) → table.IsBadPayload (record { table = t; payload = o }) y → ⊥
 whole_payload t None whole y h = absurd whole
 whole_payload t (Some p) whole why.Absent h = none_some p (sym h)
 whole_payload t (Some p) whole (why.Length want found) h = h.2 (h.0 ∙ sym (whole_len t p whole) ∙ sym h.1)
@@ -73,11 +73,11 @@ module _ (S : State) (sound : IsSound S) (s n : ℕ) where
   sound_sum want None sums is = absurd is
   sound_sum want (Some k) sums is = is ∙ sums
 
-  sound_container : (id : ℕ) (y : Why) (o : Option Container) → container_in S.containers id ≡ o → IsSomeAnd o (λ c. table.IsPayloadDamage c y) → ⊥
+  sound_container : (id : ℕ) (y : Why) (o : Option Container) → container_in S.containers id ≡ o → IsSomeAnd o (λ c. table.IsBadPayload c y) → ⊥
   sound_container id y None is bad = bad
   sound_container id y (Some c) is bad = whole_payload c.table c.payload (all_at HasPayload S.containers c sound.payloads (found_is S.containers id c is).0) y bad
 
-  sound_recipe : (y : Why) → table.IsRecipeDamage S s n y → ⊥
+  sound_recipe : (y : Why) → table.IsBadRecipe S s n y → ⊥
   sound_recipe (why.BadRow i) h = sound_row i (version_of S s n) refl h
   sound_recipe (why.Whole want found) h = h.2 (sound_sum want (version_of S s n) (sound.sums s n) h.0 ∙ sym h.1)
   sound_recipe other h = h
@@ -132,7 +132,7 @@ module _ (v : View) (K : Core) (keeps : Keeps v K) (tells : IsSome v.told.blobs)
   payload_is c there x None some held has = absurd (let clash : false ≡ true = some in cc)
   payload_is c there x (Some m) some held has = sym (held_has K keeps.core m held c there).payload ∙ has
 
-  payload_why : (c : Container) → Contains K.state.containers c → (y : Why) → IsPayloadWhy v.told.blobs c.table y → table.IsPayloadDamage c y
+  payload_why : (c : Container) → Contains K.state.containers c → (y : Why) → IsPayloadWhy v.told.blobs c.table y → table.IsBadPayload c y
   payload_why c there why.Absent h = payload_is c there None v.told.blobs tells keeps.held h
   payload_why c there (why.Length want found) h = (
     h.2.0,
@@ -157,8 +157,8 @@ module _ (v : View) (K : Core) (keeps : Keeps v K) (tells : IsSome v.told.blobs)
       let named = filter_passed (λ (x : Container). has x.table.id (map (λ r. r.id) k.rows)) K.state.containers c among in
       let found = found_where K.state.containers c ascending there in (
         subst (λ (ids : List ℕ). has i ids ≡ true) (sym rows_are) (subst (λ (m : ℕ). has m (map (λ r. r.id) k.rows) ≡ true) (sym h.2.0) named),
-        subst (λ (m : ℕ). IsSomeAnd (container_in K.state.containers m) (λ x. table.IsPayloadDamage x y)) (sym h.2.0)
-            (subst (λ (o : Option Container). IsSomeAnd o (λ x. table.IsPayloadDamage x y)) (sym found) (payload_why c there y h.2.1)),
+        subst (λ (m : ℕ). IsSomeAnd (container_in K.state.containers m) (λ x. table.IsBadPayload x y)) (sym h.2.0)
+            (subst (λ (o : Option Container). IsSomeAnd o (λ x. table.IsBadPayload x y)) (sym found) (payload_why c there y h.2.1)),
       )
   by_payload d i y h = absurd h.2
 

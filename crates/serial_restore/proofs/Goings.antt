@@ -9,58 +9,30 @@ use Rattle.vault_types.specs.declared.Fault.{Fault}
 use Rattle.vault_types.specs.declared.Fault.TheVariants as fault
 use Rattle.vault_types.specs.declared.Kind.TheVariants as kind
 use Rattle.vault_types.specs.declared.Why.TheVariants as why
-use Rattle.vault_types.specs.declared.Fp.{Fp}
-use Rattle.vault_types.specs.declared.Name.{Name}
 use Rattle.vault_types.specs.declared.Spot.{Spot}
 use Rattle.vault_types.specs.declared.Whole.{Whole}
 use Rattle.vault_types.specs.Bytes.{bytes_of}
-use Rattle.vault_types.specs.Events.{Core, Pin, IsNear, pin_of, with_pins, after_pin, after_release, containers_of}
+use Rattle.vault_types.specs.Events.{Core, IsNear, pin_of, with_pins, after_pin, containers_of}
 use Rattle.vault_types.specs.Lists.{has}
 use Rattle.vault_types.specs.Plans.{requests}
-use Rattle.vault_types.specs.Shelf.{Blobs, blob_at}
+use Rattle.vault_types.specs.Shelf.{Blobs}
 use Rattle.vault_types.specs.State.{State, KeptVersion, version_of, is_kept, floor_of, latest_of}
-use Rattle.vault_types.specs.Tables.{Container}
-use Rattle.vault_traits.specs.Crash.{LeavesNowIfTold, LeavesOnlyIfTold}
 use Rattle.vault_traits.specs.Told.{SinkTold}
-use Rattle.restore_pins.specs.Pins.{numbers, without}
-use Rattle.deletion_laws.specs.Releasing.{IsReleased}
+use Rattle.restore_pins.specs.Pins.{numbers, without_pin}
 use Rattle.vault_traits.specs.Causes.{IsCause}
 use Rattle.keeper_catalog.specs.View.{View, Keeps, HasCore}
 use Rattle.commit_laws.proofs.Listing.{some_same}
-use Rattle.keeper_core.specs.Calls.{HasListed, IsPinned, IsPinDamage, IsWholeOf}
-use Rattle.restore_assembler.proofs.Written.{takes_nothing}
+use Rattle.keeper_core.specs.declared.pinning.Pinned.{Pinned}
+use Rattle.keeper_core.specs.Calls.{HasListed, IsPinDamage}
+use Rattle.keeper_core.specs.Pins.{PinsVersion}
+use Rattle.keeper_core.specs.Releases.{Releases}
 use Rattle.store_model.specs.Calls.{IsShortAt}
-use Rattle.serial_restore.specs.Going.{Stays, HasPinned, IsCopied, IsStopped, IsAtMostLeast}
+use Rattle.serial_restore.specs.Going.{Stays, HasPinned, IsCopied, IsRestoreStopped, IsAtMostLeast}
 use Rattle.serial_restore.specs.Restoring.{whole_of, IsRestoreFault, IsLeft, IsCut, HasGone}
 use Rattle.serial_restore.proofs.Restores.{has_last, listed_gone, stayed, moment, stayed_still, moment_still, leaves_same}
 use Rattle.serial_restore.proofs.Versions.{of_pin, restored, cut, found_in, short_in}
 use Rattle.serial_restore.proofs.Faults.{pin_fault, told_version, copy_fault}
-
--- what a pin ensures
-pub record IsPin (v u : View) (s n no total : ℕ) (spots : List Spot) (sum : Option Fp) : Type 0 where
-  pub ok : IsSome v.told.blobs → (K : Core) (k : KeptVersion) → Keeps v K → version_of K.state s n ≡ Some k → Keeps u (after_pin no s n k K) × IsPinned K.state k total spots sum
-  pub whole : IsSome v.told.blobs → (K : Core) (k : KeptVersion) → Keeps v K → version_of K.state s n ≡ Some k → IsWholeOf v.told.blobs s n k sum
-  pub pinned : (K : Core) → Keeps v K → (pin : Pin) × (pin.number ≡ no) × ((c : Container) → Contains pin.containers c → Contains K.state.containers c) × Keeps u (with_pins (K.pins ++ pin ∷ []) K.strays K)
-  pub given : (ids : List ℕ) × (u.pins ≡ v.pins ++ record { number = no; version = n; ids = ids } ∷ [])
-  pub fresh : has no (numbers v.pins) ≡ false
-  pub lists : (K : Core) → Keeps u K → AllByRecursion (HasListed K.pins no) spots
-  pub same : (u.memo ≡ v.memo) × (u.index ≡ v.index) × (u.job ≡ v.job) × (u.pending ≡ v.pending)
-  pub shelf : (u.told.blobs ≡ v.told.blobs) × (u.told.history ≡ v.told.history) × (u.told.gets ≡ v.told.gets)
-  pub later : v.told.faults ≤ u.told.faults
-  pub core : HasCore v
-  pub range : s < 256
-
--- what a release ensures
-pub record IsRelease (w x : View) (no : ℕ) : Type 0 where
-  pub releases : (K : Core) → Keeps w K → Keeps x (after_release no x.memo.strays K)
-  pub pins : x.pins ≡ without no w.pins
-  pub any_moment : (K : Core) → Keeps w K → LeavesNowIfTold w.told.history (IsNear K.state K.other) → LeavesOnlyIfTold w.told.history x.told.history (IsNear K.state K.other)
-  pub within : (K : Core) → Keeps w K → (q : Name) → Contains x.memo.strays q → Contains w.memo.strays q ⊎ IsReleased K no q
-  pub others : (K : Core) → Keeps w K → (q : Name) → (IsReleased K no q → ⊥) → blob_at x.told.blobs q ≡ blob_at w.told.blobs q
-  pub tells : IsSome w.told.blobs → IsSome x.told.blobs
-  pub gets : x.told.gets ≡ w.told.gets
-  pub later : w.told.faults ≤ x.told.faults
-  pub same : (x.index ≡ w.index) × (x.job ≡ w.job) × (x.pending ≡ w.pending)
+use Rattle.vault_traits.proofs.Written.{takes_nothing}
 
 -- what the calls ask
 
@@ -68,13 +40,13 @@ pub pinned_core : (u : View) (number : ℕ) (spots : List Spot) → HasCore u �
 pinned_core u number spots core lists = (core.0, record { keeps = core.1; listed = lists core.0 core.1 })
 
 either_stays : (u w : View) (number : ℕ) (before now : SinkTold) (spots : List Spot) (whole : Option Whole) (slots : ℕ) (IsFew : ℕ → Type 0) (r : Result ℕ Fault)
-    → IfOk r (λ m. IsCopied u w number before now spots whole slots m) → IfErr r (IsStopped u w number before now spots whole IsFew) → Stays u w
+    → IfOk r (λ m. IsCopied u w number before now spots whole slots m) → IfErr r (IsRestoreStopped u w number before now spots whole IsFew) → Stays u w
 either_stays u w number before now spots whole slots IsFew (Ok m) ok err = ok.stays
 either_stays u w number before now spots whole slots IsFew (Err f) ok err = err.stays
 
 pub can_release : (v u w : View) (number n : ℕ) (before now : SinkTold) (spots : List Spot) (whole : Option Whole) (slots : ℕ) (IsFew : ℕ → Type 0) (r : Result ℕ Fault)
     → (ids : List ℕ) × (u.pins ≡ v.pins ++ record { number = number; version = n; ids = ids } ∷ [])
-    → IfOk r (λ m. IsCopied u w number before now spots whole slots m) → IfErr r (IsStopped u w number before now spots whole IsFew) → has number (numbers w.pins) ≡ true
+    → IfOk r (λ m. IsCopied u w number before now spots whole slots m) → IfErr r (IsRestoreStopped u w number before now spots whole IsFew) → has number (numbers w.pins) ≡ true
 can_release v u w number n before now spots whole slots IsFew r given ok err =
     has_last v.pins w.pins (record { number = number; version = n; ids = given.0 }) ((either_stays u w number before now spots whole slots IsFew r ok err).pins ∙ given.1)
 
@@ -137,36 +109,36 @@ pin_gone v u told s n slots f core still same shelf later cause = record {
 }
 
 -- a version that was pinned, copied and released
-module _ (v u w x : View) (before now : SinkTold) (s n slots no total : ℕ) (spots : List Spot) (sum : Option Fp) (p : IsPin v u s n no total spots sum) (r : IsRelease w x no) where
+module _ (v u w x : View) (before now : SinkTold) (s n slots : ℕ) (some_core : HasCore v) (range : s < 256) (pin : Pinned) (p : PinsVersion s n v u (Ok pin)) (r : Releases pin.no w x) where
   left_over : Stays u w → IsLeft v x s n
   left_over stays = record {
-    later = omega (arith, p.later, stays.later, r.later);
+    later = omega (arith, (p.causes some_core.0 some_core.1).later, stays.later, r.later);
     tells = λ some. r.tells (still_tells v.told.blobs w.told.blobs (stays.blobs ∙ p.shelf.0) some);
     job = r.same.1 ∙ stays.job ∙ p.same.2;
-    pins = r.pins ∙ ap (without no) (stays.pins ∙ p.given.1) ∙ listed_gone no (record { number = no; version = n; ids = p.given.0 }) v.pins refl p.fresh;
+    pins = r.pins ∙ ap (without_pin pin.no) (stays.pins ∙ p.given.1) ∙ listed_gone pin.no (record { number = pin.no; version = n; ids = p.given.0 }) v.pins refl p.fresh;
     state = λ K keeps.
         let q = p.pinned K keeps in
-        stayed v u w x K keeps s n no p.fresh p.same.0 stays r.releases r.within r.others p.shelf.0 (q.0, q.1, q.3) (λ tells k kept. (p.ok tells K k keeps kept).0);
+        stayed v u w x K keeps s n pin.no p.fresh p.same.0 stays r.releases r.within r.others p.shelf.0 (q.0, q.1, q.3) (λ tells k kept. (p.ok tells K k keeps kept).0);
     any_moment = λ K keeps.
         let q = p.pinned K keeps in
-        moment v u w x K keeps s n no p.fresh p.same.0 stays r.releases r.within r.others (q.0, q.1, q.3) p.shelf.1 r.any_moment;
+        moment v u w x K keeps s n pin.no p.fresh p.same.0 stays r.releases r.within r.others (q.0, q.1, q.3) p.shelf.1 r.any_moment;
   }
 
-  pub copied_gone : (m : ℕ) → IsCopied u w no before now spots (option_map (whole_of s n) sum) slots m → HasGone v x before now s n slots (Ok (Restored s n total m))
+  pub copied_gone : (m : ℕ) → IsCopied u w pin.no before now pin.spots.items (option_map (whole_of s n) pin.whole) slots m → HasGone v x before now s n slots (Ok (Restored s n pin.length m))
   copied_gone m copied = record {
     left = left_over copied.stays;
     sink = copied.later;
-    kind = (total, m, refl);
+    kind = (pin.length, m, refl);
     cause = tt;
     ok = λ tells K k keeps kept.
         let ok = p.ok tells K k keeps kept in
-        restored v K keeps s n no k kept p.fresh u total spots sum ok.1 ok.0 (p.lists (after_pin no s n k K) ok.0) (still_tells v.told.blobs u.told.blobs p.shelf.0 tells)
-        w x before now slots p.shelf.2 r.gets (let range = p.range in let sets = keeps.core.state.sets in omega (arith, range, sets)) tells (p.whole tells K k keeps kept) m (Restored s n total m) refl copied;
+        restored v K keeps s n pin.no k kept p.fresh u pin.length pin.spots.items pin.whole ok.1 ok.0 (p.lists (after_pin pin.no s n k K) ok.0) (still_tells v.told.blobs u.told.blobs p.shelf.0 tells)
+        w x before now slots p.shelf.2 r.gets (let sets = keeps.core.state.sets in omega (arith, range, sets)) tells (p.whole tells K k keeps kept) m (Restored s n pin.length m) refl copied;
     err = tt;
     short = tt;
   }
 
-  pub stopped_gone : (f : Fault) → IsStopped u w no before now spots (option_map (whole_of s n) sum) (IsAtMostLeast (requests (map (λ q. q.id) spots)) slots) f → HasGone v x before now s n slots (Err f)
+  pub stopped_gone : (f : Fault) → IsRestoreStopped u w pin.no before now pin.spots.items (option_map (whole_of s n) pin.whole) (IsAtMostLeast (requests (map (λ q. q.id) pin.spots.items)) slots) f → HasGone v x before now s n slots (Err f)
   stopped_gone f stopped = record {
     left = left_over stopped.stays;
     sink = stopped.later;
@@ -175,12 +147,12 @@ module _ (v u w x : View) (before now : SinkTold) (s n slots no total : ℕ) (sp
     ok = tt;
     err = λ tells K k keeps kept.
         let ok = p.ok tells K k keeps kept in
-        cut v K keeps s n no k kept p.fresh u total spots sum ok.1 ok.0 (p.lists (after_pin no s n k K) ok.0) (still_tells v.told.blobs u.told.blobs p.shelf.0 tells)
-        w x before now slots p.shelf.2 r.gets (option_map (whole_of s n) sum) f stopped;
+        cut v K keeps s n pin.no k kept p.fresh u pin.length pin.spots.items pin.whole ok.1 ok.0 (p.lists (after_pin pin.no s n k K) ok.0) (still_tells v.told.blobs u.told.blobs p.shelf.0 tells)
+        w x before now slots p.shelf.2 r.gets (option_map (whole_of s n) pin.whole) f stopped;
     short = λ tells K k keeps kept.
         let ok = p.ok tells K k keeps kept in
-        short_in v K keeps s n no k kept p.fresh u total spots sum ok.1 ok.0 (p.lists (after_pin no s n k K) ok.0) (still_tells v.told.blobs u.told.blobs p.shelf.0 tells)
-        (option_map (whole_of s n) sum) (IsAtMostLeast (requests (map (λ q. q.id) spots)) slots) w before now f stopped;
+        short_in v K keeps s n pin.no k kept p.fresh u pin.length pin.spots.items pin.whole ok.1 ok.0 (p.lists (after_pin pin.no s n k K) ok.0) (still_tells v.told.blobs u.told.blobs p.shelf.0 tells)
+        (option_map (whole_of s n) pin.whole) (IsAtMostLeast (requests (map (λ q. q.id) pin.spots.items)) slots) w before now f stopped;
   }
     where
       why : (K : Core) → Keeps v K → (IsSome v.told.blobs × (k : KeptVersion) × (version_of K.state s n ≡ Some k)) ⊎ (IsSome v.told.blobs → (k : KeptVersion) → version_of K.state s n ≡ Some k → ⊥)
@@ -190,16 +162,16 @@ module _ (v u w x : View) (before now : SinkTold) (s n slots no total : ℕ) (sp
           let k = known.1 in
           let kept = known.2 in
           let ok = p.ok tells K k keeps kept in
-          let listed = p.lists (after_pin no s n k K) ok.0 in
-          copy_fault v u w x before now K.state s n sum (K.pins ++ pin_of no s n K.state k ∷ []) no
-          (λ id c lists some j is. subst (λ (i : KeptVersion). Contains (containers_of K.state.containers (map (λ q. q.id) i.rows)) c) (some_same k j (sym kept ∙ is)) (of_pin v K keeps s n no k kept p.fresh id c lists))
-          p.shelf.0 p.later r.later f
+          let listed = p.lists (after_pin pin.no s n k K) ok.0 in
+          copy_fault v u w x before now K.state s n pin.whole (K.pins ++ pin_of pin.no s n K.state k ∷ []) pin.no
+          (λ id c lists some j is. subst (λ (i : KeptVersion). Contains (containers_of K.state.containers (map (λ q. q.id) i.rows)) c) (some_same k j (sym kept ∙ is)) (of_pin v K keeps s n pin.no k kept p.fresh id c lists))
+          p.shelf.0 (p.causes some_core.0 some_core.1).later r.later f
           (λ some j is. (
             (p.ok some K j keeps is).1.sum,
-            found_in v K keeps s n no k kept p.fresh u total spots sum ok.1 ok.0 listed (still_tells v.told.blobs u.told.blobs p.shelf.0 tells) (option_map (whole_of s n) sum) (IsAtMostLeast (requests (map (λ q. q.id) spots)) slots) w before now f stopped,
+            found_in v K keeps s n pin.no k kept p.fresh u pin.length pin.spots.items pin.whole ok.1 ok.0 listed (still_tells v.told.blobs u.told.blobs p.shelf.0 tells) (option_map (whole_of s n) pin.whole) (IsAtMostLeast (requests (map (λ q. q.id) pin.spots.items)) slots) w before now f stopped,
           ))
-          (stopped.cause (after_pin no s n k K) (record { keeps = ok.0; listed = listed }))
+          (stopped.cause (after_pin pin.no s n k K) (record { keeps = ok.0; listed = listed }))
       why K keeps (inr none) =
           let q = p.pinned K keeps in
-          copy_fault v u w x before now K.state s n sum (K.pins ++ q.0 ∷ []) no (λ id c lists some j is. absurd (none some j is)) p.shelf.0 p.later r.later f (λ some j is. absurd (none some j is))
+          copy_fault v u w x before now K.state s n pin.whole (K.pins ++ q.0 ∷ []) pin.no (λ id c lists some j is. absurd (none some j is)) p.shelf.0 (p.causes some_core.0 some_core.1).later r.later f (λ some j is. absurd (none some j is))
           (stopped.cause (with_pins (K.pins ++ q.0 ∷ []) K.strays K) (record { keeps = q.3; listed = p.lists (with_pins (K.pins ++ q.0 ∷ []) K.strays K) q.3 }))

@@ -29,7 +29,7 @@ use Rattle.vault_traits.specs.Crash.{History, LeavesNowIfTold, LeavesOnlyIfTold}
 use Rattle.vault_traits.specs.Told.{SinkTold}
 use Rattle.vault_traits.proofs.Maps.{same_blobs}
 use Rattle.vault_traits.proofs.Moments.{ends, more}
-use Rattle.restore_assembler.proofs.Written.{takes_nothing}
+use Rattle.vault_traits.proofs.Written.{takes_nothing}
 use Rattle.keeper_catalog.specs.View.{View, Keeps, HasCore}
 use Rattle.commit_laws.proofs.Listing.{itself, same_number}
 use Rattle.vault_types.specs.BlobDamage.{IsPayloadDamage}
@@ -46,9 +46,9 @@ use Rattle.script_laws.proofs.Following.{near_with}
 use Rattle.script_laws.proofs.Forms.{still_forms}
 use Rattle.script_laws.proofs.LineLemmas.{unmoved, not_kept_means, not_kept_is}
 use Rattle.vault_types.specs.declared.Pending.TheVariants as pending
-use Rattle.serial_delete.specs.Keeping.{IsStateWith, IsKnownStray}
-use Rattle.serial_delete.proofs.Keeping.{changed_of, images_of}
-use Rattle.serial_restore.specs.Going.{IsAtMostLeast, TakesFront}
+use Rattle.keeper_core.specs.Keeping.{IsStateWith, IsKnownStray}
+use Rattle.keeper_core.proofs.BetweenLines.{changed_of, images_of}
+use Rattle.serial_restore.specs.Going.{IsAtMostLeast, HasTakenFront}
 use Rattle.serial_restore.specs.Restoring.{IsRestoreFault, IsBadPayloadOf, IsWrongSumOf, IsLeft, HasGone}
 use Rattle.serial_restore.proofs.Damages.{undamaged, shown}
 use Rattle.serial_restore.proofs.Goings.{not_kept_gone}
@@ -94,7 +94,7 @@ sum_wrong : (told : Option Blobs) (S : State) (s n i : ℕ) (y : Why) → IsWron
 sum_wrong told S s n i (why.Whole want found) h = other_sum want found h.1
 sum_wrong told S s n i other h = absurd h
 
-recipe_wrong : (told : Option Blobs) (S : State) (s n i : ℕ) (y : Why) → IsPinDamage told S s n kind.Recipe i y ⊎ (IsBadPayloadOf told S s n kind.Recipe i y ⊎ IsWrongSumOf told S s n kind.Recipe i y) → IsTrue (may_be_wrong kind.Recipe y)
+pub recipe_wrong : (told : Option Blobs) (S : State) (s n i : ℕ) (y : Why) → IsPinDamage told S s n kind.Recipe i y ⊎ (IsBadPayloadOf told S s n kind.Recipe i y ⊎ IsWrongSumOf told S s n kind.Recipe i y) → IsTrue (may_be_wrong kind.Recipe y)
 recipe_wrong told S s n i y h = ⊎_elim (λ pin. pin_wrong told S s n i y pin) (λ e. ⊎_elim (λ bad. absurd bad.2) (λ wrong. sum_wrong told S s n i y wrong) e) h
 
 payload_wrong : (told : Option Blobs) (t : Table) (i : ℕ) (y : Why) → IsPayloadDamage told t kind.Payload i y → IsTrue (may_be_wrong kind.Payload y)
@@ -102,6 +102,9 @@ payload_wrong told t i why.Absent h = refl
 payload_wrong told t i (why.Length want found) h = other_length want found h.1.2.2
 payload_wrong told t i (why.Sum want found) h = other_sum want found h.1.2.3
 payload_wrong told t i other h = absurd h.1.2
+
+pub payload_bad : (told : Option Blobs) (S : State) (s n i : ℕ) (y : Why) → IsPinDamage told S s n kind.Payload i y ⊎ (IsBadPayloadOf told S s n kind.Payload i y ⊎ IsWrongSumOf told S s n kind.Payload i y) → IsTrue (may_be_wrong kind.Payload y)
+payload_bad told S s n i y h = ⊎_elim (λ pin. absurd pin) (λ e. ⊎_elim (λ bad. payload_wrong told bad.0.table i y bad.2) (λ wrong. absurd wrong) e) h
 
 damage_number : (told : Option Blobs) (S : State) (s n i : ℕ) (y : Why) → IsPinDamage told S s n kind.Recipe i y ⊎ (IsBadPayloadOf told S s n kind.Recipe i y ⊎ IsWrongSumOf told S s n kind.Recipe i y) → i ≡ (recipe_name s n).number
 damage_number told S s n i y h = ⊎_elim (λ pin. pin_number told S s n i y pin) (λ e. ⊎_elim (λ bad. absurd bad.2) (λ wrong. sum_number told S s n i y wrong) e) h
@@ -115,7 +118,7 @@ module _ (v x : View) (before now : SinkTold) (S : State) (s n slots : ℕ) wher
       or_left ((i == (recipe_name s n).number) && may_be_wrong kind.Recipe y) false
       (both (ap (λ (m : ℕ). m == (recipe_name s n).number) (damage_number v.told.blobs S s n i y h) ∙ itself (recipe_name s n).number) (recipe_wrong v.told.blobs S s n i y h))
   kind_err limits (fault.Damaged kind.Payload i y) h =
-      or_left (may_be_wrong kind.Payload y) false (⊎_elim (λ pin. absurd pin) (λ e. ⊎_elim (λ bad. payload_wrong v.told.blobs bad.0.table i y bad.2) (λ wrong. absurd wrong) e) h)
+      or_left (may_be_wrong kind.Payload y) false (payload_bad v.told.blobs S s n i y h)
   kind_err limits (fault.Damaged kind.Table i y) h = absurd (⊎_elim (λ pin. pin) (λ e. ⊎_elim (λ bad. bad.2) (λ wrong. wrong) e) h)
   kind_err limits (fault.Damaged kind.Floor i y) h = absurd (⊎_elim (λ pin. pin) (λ e. ⊎_elim (λ bad. bad.2) (λ wrong. wrong) e) h)
   kind_err limits fault.Memory h = refl
@@ -253,7 +256,7 @@ module _ (v x : View) (ps : List Pin) (before now : SinkTold) (s n slots : ℕ) 
 -- ---- what is written
 
 module _ (v x : View) (before now : SinkTold) (s n slots : ℕ) (K : Core) (keeps : Keeps v K) (told : IsSome v.told.blobs) where
-  refused_written : (f : Fault) → TakesFront before now (bytes_of K.state s n) → IsShortAt (bytes_of K.state s n) before.taken now.taken f → HasWritten K.state s n (Refused f) before.taken now.taken
+  refused_written : (f : Fault) → HasTakenFront before now (bytes_of K.state s n) → IsShortAt (bytes_of K.state s n) before.taken now.taken f → HasWritten K.state s n (Refused f) before.taken now.taken
   refused_written (fault.Damaged kind.Recipe i (why.Whole want found)) front all = (bytes_of K.state s n, ([], append-nil (bytes_of K.state s n)), all, λ done. refl)
   refused_written other front all = (front.front, (front.rest, front.parts), front.taken, λ done. absurd (let e : false ≡ true = done in cc))
 

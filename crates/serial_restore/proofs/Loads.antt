@@ -30,8 +30,8 @@ use Rattle.state_laws.proofs.Members.{of_map, in_map}
 use Rattle.restore_assembler.specs.Copying.{Copying, wanted, IsCovered, IsWanted, HasCopied, IsTakenAt, version_bytes}
 use Rattle.restore_assembler.specs.Copying as copying
 use Rattle.restore_assembler.specs.Payloads.{Covers, Fits}
-use Rattle.restore_assembler.proofs.Written.{takes_nothing}
-use Rattle.serial_restore.specs.Going.{Stays, HasPinned, AreGiven, IsFull, IsFullAt, IsLoadOf, TakesFront, IsWrongSum, IsCopyFault, IsFoundOf, HasSum, LoadsOne, StopsAt, Underway, HasDone, IsCopied, IsStopped, IsAtMostLeast}
+use Rattle.vault_traits.proofs.Written.{takes_nothing}
+use Rattle.serial_restore.specs.Going.{Stays, HasPinned, AreGiven, IsFull, IsFullAt, IsLoadOf, HasTakenFront, IsWrongSum, IsCopyFault, IsFoundOf, HasSum, LoadsOne, StopsAt, Underway, HasDone, IsCopied, IsRestoreStopped, IsAtMostLeast}
 use Rattle.belady_cache.proofs.Steps.{loads_append}
 use Rattle.serial_restore.proofs.Plans.{rule_loads, next_among, wanted_next, wanted_loads, one_loaded, loads_parts, front_serves, all_loaded, all_loads, at_most}
 
@@ -99,7 +99,7 @@ module _ (v w : View) (before now : SinkTold) (pins : List Pin) (number : ℕ) (
   load_fault id c lists fault.Memory h = tt
   load_fault id c lists other h = absurd h
 
-  give_fault : (f : Fault) → copying.IsCause whole before now f → IsCopyFault v w before now pins number whole f
+  give_fault : (f : Fault) → copying.IsOutputFault whole before now f → IsCopyFault v w before now pins number whole f
   give_fault (fault.WriteFault n) h = h
   give_fault (fault.Damaged kind.Recipe n (why.Whole want found)) h = inl h
   give_fault other h = absurd h
@@ -126,7 +126,7 @@ taken_short bytes before now (fault.WriteFault n) h =
 taken_short bytes before now (fault.Damaged kind.Recipe n (why.Whole want found)) h = h.1
 taken_short bytes before now other h = tt
 
-taken_front : (bytes : List ℕ) (before now : SinkTold) (f : Fault) → IsTakenAt bytes before now f → TakesFront before now bytes
+taken_front : (bytes : List ℕ) (before now : SinkTold) (f : Fault) → IsTakenAt bytes before now f → HasTakenFront before now bytes
 taken_front bytes before now (fault.WriteFault n) h = record { front = h.0; rest = h.1; parts = h.2; taken = h.4 }
 taken_front bytes before now (fault.Damaged k n (why.Whole want found)) h = record { front = bytes; rest = []; parts = simp append-nil; taken = h.1 }
 taken_front bytes before now other h = absurd h
@@ -251,10 +251,10 @@ module _ (v w : View) (number id : ℕ) (s : Copying) (next : wanted s ≡ Some 
 
       -- or the sink failed, or the sum is wrong
       pub stops_give : {T : Type 0} (r : Result T Fault) → Stays v w → before.faults ≤ now.faults → w.told.gets ≡ counted v.told.gets
-          → IfErr r (copying.IsCause s.whole before now)
+          → IfErr r (copying.IsOutputFault s.whole before now)
           → IfErr r (λ f. (payloads : ℕ → List ℕ) (start : SinkTold) → HasCopied payloads start before s → IsWanted payloads s bytes → IsTakenAt (version_bytes payloads s.spots) start now f)
           → IfErr r (StopsAt v w number before now s)
-      stops_give r stays later gets = err_from_two (copying.IsCause s.whole before now) (λ f. (payloads : ℕ → List ℕ) (start : SinkTold) → HasCopied payloads start before s → IsWanted payloads s bytes → IsTakenAt (version_bytes payloads s.spots) start now f) (StopsAt v w number before now s) r
+      stops_give r stays later gets = err_from_two (copying.IsOutputFault s.whole before now) (λ f. (payloads : ℕ → List ℕ) (start : SinkTold) → HasCopied payloads start before s → IsWanted payloads s bytes → IsTakenAt (version_bytes payloads s.spots) start now f) (StopsAt v w number before now s) r
           (λ f cause taken. record {
             stays = stays;
             later = later;
@@ -326,7 +326,7 @@ module _ (v : View) (number : ℕ) (before : SinkTold) (s : Copying) where
             (one.sum none payloads before (way_given payloads given) (way.copied payloads given))));
       }
 
-      pub stops : (f : Fault) → StopsAt w x number mid now t f → IsStopped v x number before now s.spots s.whole (λ m. m ≤ loads s.steps) f
+      pub stops : (f : Fault) → StopsAt w x number mid now t f → IsRestoreStopped v x number before now s.spots s.whole (λ m. m ≤ loads s.steps) f
       stops f at = record {
         stays = stays_then v w x way.stays at.stays;
         later = omega (arith, way.later, at.later);
@@ -338,7 +338,7 @@ module _ (v : View) (number : ℕ) (before : SinkTold) (s : Copying) where
             omega (arith, a, b, c);
         gets = at.gets ∙ ap counted way.gets;
         cause = λ K pinned. later_fault v w x before mid now K.pins number s.whole t.whole way.stays way.later way.whole f (at.cause K (way_pinned K pinned));
-        front = λ payloads given. subst (λ (spots : List Spot). TakesFront before now (version_bytes payloads spots)) way.spots (at.front payloads before (way_given payloads given) (way.copied payloads given));
+        front = λ payloads given. subst (λ (spots : List Spot). HasTakenFront before now (version_bytes payloads spots)) way.spots (at.front payloads before (way_given payloads given) (way.copied payloads given));
         found = λ payloads given. subst (λ (spots : List Spot). IsFoundOf (version_bytes payloads spots) f) way.spots (at.found payloads before (way_given payloads given) (way.copied payloads given));
         short = λ payloads given. subst (λ (spots : List Spot). IsShortAt (version_bytes payloads spots) before.taken now.taken f) way.spots (at.short payloads before (way_given payloads given) (way.copied payloads given));
       }
@@ -361,8 +361,8 @@ module _ (v : View) (number : ℕ) (before : SinkTold) (s : Copying) where
 
 module _ (v : View) (number : ℕ) (before : SinkTold) (spots : List Spot) (whole : Option Whole) (slots : ℕ) where
   -- no memory for the plan
-  pub stops_early : (f : Fault) → f ≡ fault.Memory → IsStopped v v number before before spots whole (IsAtMostLeast (requests (map (λ q. q.id) spots)) slots) f
-  stops_early f is = subst (λ (g : Fault). IsStopped v v number before before spots whole (IsAtMostLeast (requests (map (λ q. q.id) spots)) slots) g) (sym is) (record {
+  pub stops_early : (f : Fault) → f ≡ fault.Memory → IsRestoreStopped v v number before before spots whole (IsAtMostLeast (requests (map (λ q. q.id) spots)) slots) f
+  stops_early f is = subst (λ (g : Fault). IsRestoreStopped v v number before before spots whole (IsAtMostLeast (requests (map (λ q. q.id) spots)) slots) g) (sym is) (record {
     stays = stays_same v;
     later = omega arith;
     loads = 0;
@@ -375,9 +375,9 @@ module _ (v : View) (number : ℕ) (before : SinkTold) (spots : List Spot) (whol
   })
 
   module _ (w : View) (now : SinkTold) (s : Copying) (steps : List Step) (n : ℕ) (same : s.spots ≡ spots) (are : s.steps ≡ steps) (count : n ≡ loads steps) (least : IsLeast (requests (map (λ q. q.id) spots)) slots n) where
-    pub stops_late : s.whole ≡ whole → (f : Fault) → IsStopped v w number before now s.spots s.whole (λ m. m ≤ loads s.steps) f → IsStopped v w number before now spots whole (IsAtMostLeast (requests (map (λ q. q.id) spots)) slots) f
+    pub stops_late : s.whole ≡ whole → (f : Fault) → IsRestoreStopped v w number before now s.spots s.whole (λ m. m ≤ loads s.steps) f → IsRestoreStopped v w number before now spots whole (IsAtMostLeast (requests (map (λ q. q.id) spots)) slots) f
     stops_late wholes f at =
-        let here : IsStopped v w number before now s.spots s.whole (IsAtMostLeast (requests (map (λ q. q.id) spots)) slots) f = record {
+        let here : IsRestoreStopped v w number before now s.spots s.whole (IsAtMostLeast (requests (map (λ q. q.id) spots)) slots) f = record {
           stays = at.stays;
           later = at.later;
           loads = at.loads;
@@ -388,8 +388,8 @@ module _ (v : View) (number : ℕ) (before : SinkTold) (spots : List Spot) (whol
           found = at.found;
           short = at.short;
         } in
-        subst (λ (o : Option Whole). IsStopped v w number before now spots o (IsAtMostLeast (requests (map (λ q. q.id) spots)) slots) f) wholes
-        (subst (λ (ss : List Spot). IsStopped v w number before now ss s.whole (IsAtMostLeast (requests (map (λ q. q.id) spots)) slots) f) same here)
+        subst (λ (o : Option Whole). IsRestoreStopped v w number before now spots o (IsAtMostLeast (requests (map (λ q. q.id) spots)) slots) f) wholes
+        (subst (λ (ss : List Spot). IsRestoreStopped v w number before now ss s.whole (IsAtMostLeast (requests (map (λ q. q.id) spots)) slots) f) same here)
 
     pub copied_all : s.whole ≡ whole → IsTrue (serves slots [] steps (requests (map (λ q. q.id) spots))) → HasDone v w number before now s → IsCopied v w number before now spots whole slots n
     copied_all wholes served done =

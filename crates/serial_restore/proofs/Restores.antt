@@ -9,7 +9,7 @@ use Rattle.vault_types.specs.Shelf.{Blobs, recipe_name, blob_at}
 use Rattle.vault_types.specs.State.{KeptVersion, version_of, named}
 use Rattle.vault_types.specs.Tables.{Container, id_of}
 use Rattle.vault_traits.specs.Crash.{History, LeavesNowIfTold, LeavesOnlyIfTold}
-use Rattle.restore_pins.specs.Pins.{Listed, numbers, without}
+use Rattle.restore_pins.specs.Pins.{Listed, numbers, without_pin}
 use Rattle.restore_pins.proofs.Callers.{numbers-same}
 use Rattle.deletion_laws.specs.Deleting.{pinned_ids}
 use Rattle.deletion_laws.specs.Releasing.{released_ids, IsReleased}
@@ -27,12 +27,12 @@ leaves_same None P now = tt
 leaves_same (Some h) P now = record { steps = []; goes_on = refl; each = now }
 
 -- so in the lists in memory
-pub listed_gone : (number : ℕ) (l : Listed) (pins : List Listed) → l.number ≡ number → has number (numbers pins) ≡ false → without number (pins ++ l ∷ []) ≡ pins
+pub listed_gone : (number : ℕ) (l : Listed) (pins : List Listed) → l.number ≡ number → has number (numbers pins) ≡ false → without_pin number (pins ++ l ∷ []) ≡ pins
 listed_gone number l [] is fresh = ap (λ (b : Bool). cond (not b) (l ∷ []) []) (ap (λ (m : ℕ). m == number) is ∙ itself number)
 listed_gone number l (p ∷ pins) is fresh = step (nat_eq number p.number) (p.number == number) refl refl fresh (listed_gone number l pins is)
   where
-    step : (a b : Bool) → nat_eq number p.number ≡ a → (p.number == number) ≡ b → (a || has number (numbers pins)) ≡ false → (has number (numbers pins) ≡ false → without number (pins ++ l ∷ []) ≡ pins)
-        → cond (not b) (p ∷ without number (pins ++ l ∷ [])) (without number (pins ++ l ∷ [])) ≡ p ∷ pins
+    step : (a b : Bool) → nat_eq number p.number ≡ a → (p.number == number) ≡ b → (a || has number (numbers pins)) ≡ false → (has number (numbers pins) ≡ false → without_pin number (pins ++ l ∷ []) ≡ pins)
+        → cond (not b) (p ∷ without_pin number (pins ++ l ∷ [])) (without_pin number (pins ++ l ∷ [])) ≡ p ∷ pins
     step true b e f h rest = absurd (let g : true ≡ false = h in cc)
     step false true e f h rest = clash (nat_eq number p.number) (ap (nat_eq number) (sym (same_number p.number number f)) ∙ itself number) e
     step false false e f h rest = ap (λ (ps : List Listed). p ∷ ps) (rest h)

@@ -33,7 +33,7 @@ use Rattle.state_laws.proofs.Members.{filter_contains, filter_within, first_or_r
 use Rattle.keeper_core.specs.Calls.{Lists, HasListed, IsPinned, IsWholeOf}
 use Rattle.restore_assembler.specs.Copying.{version_bytes}
 use Rattle.store_model.specs.Calls.{IsShortAt}
-use Rattle.serial_restore.specs.Going.{HasPinned, ArePayloads, AreGiven, IsFull, HasSum, IsSummed, IsFoundOf, TakesFront, IsCopied, IsStopped, IsAtMostLeast}
+use Rattle.serial_restore.specs.Going.{HasPinned, ArePayloads, AreGiven, IsFull, HasSum, IsSummed, IsFoundOf, HasTakenFront, IsCopied, IsRestoreStopped, IsAtMostLeast}
 use Rattle.serial_restore.specs.Restoring.{whole_of, IsRestored, IsCut}
 use Rattle.serial_restore.proofs.Chunks.{fitting, payload_at, fitting_whole, spots_bytes, rows_len, HasWhole}
 use Rattle.serial_restore.proofs.Restores.{pins_taken}
@@ -124,11 +124,11 @@ module _ (v : View) (K : Core) (keeps : Keeps v K) (s n no : ℕ) (k : KeptVersi
       sum_is below told (inr first) (inr summed) = sym (first_sum K v keeps s n k below kept v.told.blobs told keeps.held first.1)
 
       -- where the sum was wrong, it is that of the version's bytes
-      pub found_in : (whole : Option Whole) (IsFew : ℕ → Type 0) (w : View) (before now : SinkTold) (f : Fault) → IsStopped u w no before now spots whole IsFew f → IsFoundOf (bytes_of K.state s n) f
+      pub found_in : (whole : Option Whole) (IsFew : ℕ → Type 0) (w : View) (before now : SinkTold) (f : Fault) → IsRestoreStopped u w no before now spots whole IsFew f → IsFoundOf (bytes_of K.state s n) f
       found_in whole IsFew w before now f stopped = subst (λ (bytes : List ℕ). IsFoundOf bytes f) copied_bytes (stopped.found (payload_at K.state.containers) payloads_given)
 
       -- where the sink failed, it has taken less than the version's bytes
-      pub short_in : (whole : Option Whole) (IsFew : ℕ → Type 0) (w : View) (before now : SinkTold) (f : Fault) → IsStopped u w no before now spots whole IsFew f → IsShortAt (bytes_of K.state s n) before.taken now.taken f
+      pub short_in : (whole : Option Whole) (IsFew : ℕ → Type 0) (w : View) (before now : SinkTold) (f : Fault) → IsRestoreStopped u w no before now spots whole IsFew f → IsShortAt (bytes_of K.state s n) before.taken now.taken f
       short_in whole IsFew w before now f stopped = subst (λ (bytes : List ℕ). IsShortAt bytes before.taken now.taken f) copied_bytes (stopped.short (payload_at K.state.containers) payloads_given)
 
       -- what is taken, with the gets of the version's pin and release
@@ -144,10 +144,10 @@ module _ (v : View) (K : Core) (keeps : Keeps v K) (s n no : ℕ) (k : KeptVersi
           is = is ∙ ap (λ (l : ℕ). Restored s n l m) (length_is copied.full);
         }
 
-        pub cut : (whole : Option Whole) (f : Fault) → IsStopped u w no before now spots whole (IsAtMostLeast (requests (map (λ q. q.id) spots)) slots) f → IsCut v x before now K s n k slots
+        pub cut : (whole : Option Whole) (f : Fault) → IsRestoreStopped u w no before now spots whole (IsAtMostLeast (requests (map (λ q. q.id) spots)) slots) f → IsCut v x before now K s n k slots
         cut whole f stopped = record {
           loads = stopped.loads;
           few = subst (λ (ids : List ℕ). IsAtMostLeast (requests ids) slots stopped.loads) ids_are stopped.few;
           gets = gets_behind ∙ stopped.gets ∙ ap (λ (g : ℕ). counted_up g stopped.loads) gets_before;
-          front = subst (λ (bytes : List ℕ). TakesFront before now bytes) copied_bytes (stopped.front (payload_at K.state.containers) payloads_given);
+          front = subst (λ (bytes : List ℕ). HasTakenFront before now bytes) copied_bytes (stopped.front (payload_at K.state.containers) payloads_given);
         }

@@ -45,7 +45,8 @@ pub record HasPinned (v : View) (number : ℕ) (spots : List Spot) (K : Core) : 
 -- the payloads, by the ids of their containers, are those that the containers have which the pin lists
 abbrev pub ArePayloads : List Pin → ℕ → (ℕ → List ℕ) → Type 0
 ArePayloads pins number payloads =
-    (id : ℕ) (c : Container) (bytes : List ℕ) → Lists pins number id c → c.payload ≡ Some bytes → length bytes ≡ payload_len c.table.rows → payloads id ≡ bytes
+    (id : ℕ) (c : Container) (bytes : List ℕ) → Lists pins number id c → c.payload ≡ Some bytes
+    → length bytes ≡ payload_len c.table.rows → payloads id ≡ bytes
 
 -- so in a core that is kept, over a shelf that tells its blobs
 pub record AreGiven (v : View) (number : ℕ) (spots : List Spot) (payloads : ℕ → List ℕ) : Type 0 where
@@ -73,7 +74,7 @@ IsLoadOf ids (Evict id) = Unit {0}
 IsLoadOf ids Serve = Unit {0}
 
 -- the sink has taken a front of the bytes
-pub record TakesFront (before now : SinkTold) (bytes : List ℕ) : Type 0 where
+pub record HasTakenFront (before now : SinkTold) (bytes : List ℕ) : Type 0 where
   pub front : List ℕ
   pub rest : List ℕ
   pub parts : front ++ rest ≡ bytes
@@ -81,18 +82,24 @@ pub record TakesFront (before now : SinkTold) (bytes : List ℕ) : Type 0 where
 
 -- the bytes have another sum than they should
 abbrev pub IsWrongSum : Option Whole → Kind → ℕ → Why → Type 0
-IsWrongSum whole kind.Recipe number (why.Whole want found) = (whole ≡ Some (record { number = number; want = want })) × (found ≢ want)
+IsWrongSum whole kind.Recipe number (why.Whole want found) =
+    (whole ≡ Some (record { number = number; want = want })) × (found ≢ want)
 IsWrongSum whole kind number other = ⊥
 
 -- a payload of the pin is damaged
 abbrev pub IsBadPayload : Option Blobs → List Pin → ℕ → Kind → ℕ → Why → Type 0
-IsBadPayload told pins number k n w = (id : ℕ) × (c : Container) × Lists pins number id c × IsPayloadDamage told c.table k n w
+IsBadPayload told pins number k n w =
+    (id : ℕ) × (c : Container) × Lists pins number id c × IsPayloadDamage told c.table k n w
 
--- why a restore stopped: the shelf or the sink failed in it, a payload is damaged, or the bytes have another sum
+-- why a restore stopped: the shelf or the sink failed in it, a payload is damaged, or the bytes
+-- have another sum
 abbrev pub IsCopyFault : View → View → SinkTold → SinkTold → List Pin → ℕ → Option Whole → Fault → Type 0
-IsCopyFault v w before now pins number whole (fault.StoreFault n) = (n ≡ w.told.faults) × Rose v.told.faults w.told.faults
-IsCopyFault v w before now pins number whole (fault.WriteFault n) = (n ≡ now.faults) × Rose before.faults now.faults
-IsCopyFault v w before now pins number whole (fault.Damaged k n why) = IsWrongSum whole k n why ⊎ IsBadPayload v.told.blobs pins number k n why
+IsCopyFault v w before now pins number whole (fault.StoreFault n) =
+    (n ≡ w.told.faults) × Rose v.told.faults w.told.faults
+IsCopyFault v w before now pins number whole (fault.WriteFault n) =
+    (n ≡ now.faults) × Rose before.faults now.faults
+IsCopyFault v w before now pins number whole (fault.Damaged k n why) =
+    IsWrongSum whole k n why ⊎ IsBadPayload v.told.blobs pins number k n why
 IsCopyFault v w before now pins number whole fault.Memory = Unit {0}
 IsCopyFault v w before now pins number whole other = ⊥
 
@@ -107,7 +114,8 @@ HasSum payloads spots whole = IfSome whole (λ x. fp (version_bytes payloads spo
 
 -- so with the payloads that are given
 abbrev pub IsSummed : View → ℕ → List Spot → Option Whole → Type 0
-IsSummed v number spots whole = (payloads : ℕ → List ℕ) → AreGiven v number spots payloads → HasSum payloads spots whole
+IsSummed v number spots whole =
+    (payloads : ℕ → List ℕ) → AreGiven v number spots payloads → HasSum payloads spots whole
 
 -- one load, and what the copier does with its payload
 
@@ -120,17 +128,22 @@ pub record LoadsOne (v w : View) (number id : ℕ) (before now : SinkTold) (s t 
   pub fewer : loads t.steps + 1 ≡ loads s.steps
   pub behind : (k : ℕ) × (t.steps ≡ drop k s.steps)
   pub full : IsFull v number s.spots id
-  pub copied : (payloads : ℕ → List ℕ) (start : SinkTold) → AreGiven v number s.spots payloads → HasCopied payloads start before s → HasCopied payloads start now t
-  pub sum : wanted t ≡ None → (payloads : ℕ → List ℕ) (start : SinkTold) → AreGiven v number s.spots payloads → HasCopied payloads start before s → HasSum payloads s.spots s.whole
+  pub copied : (payloads : ℕ → List ℕ) (start : SinkTold) → AreGiven v number s.spots payloads
+      → HasCopied payloads start before s → HasCopied payloads start now t
+  pub sum : wanted t ≡ None → (payloads : ℕ → List ℕ) (start : SinkTold) → AreGiven v number s.spots payloads
+      → HasCopied payloads start before s → HasSum payloads s.spots s.whole
 
 pub record StopsAt (v w : View) (number : ℕ) (before now : SinkTold) (s : Copying) (f : Fault) : Type 0 where
   pub stays : Stays v w
   pub later : before.faults ≤ now.faults
   pub gets : w.told.gets ≡ counted v.told.gets
   pub cause : (K : Core) → HasPinned v number s.spots K → IsCopyFault v w before now K.pins number s.whole f
-  pub front : (payloads : ℕ → List ℕ) (start : SinkTold) → AreGiven v number s.spots payloads → HasCopied payloads start before s → TakesFront start now (version_bytes payloads s.spots)
-  pub found : (payloads : ℕ → List ℕ) (start : SinkTold) → AreGiven v number s.spots payloads → HasCopied payloads start before s → IsFoundOf (version_bytes payloads s.spots) f
-  pub short : (payloads : ℕ → List ℕ) (start : SinkTold) → AreGiven v number s.spots payloads → HasCopied payloads start before s → IsShortAt (version_bytes payloads s.spots) start.taken now.taken f
+  pub front : (payloads : ℕ → List ℕ) (start : SinkTold) → AreGiven v number s.spots payloads
+      → HasCopied payloads start before s → HasTakenFront start now (version_bytes payloads s.spots)
+  pub found : (payloads : ℕ → List ℕ) (start : SinkTold) → AreGiven v number s.spots payloads
+      → HasCopied payloads start before s → IsFoundOf (version_bytes payloads s.spots) f
+  pub short : (payloads : ℕ → List ℕ) (start : SinkTold) → AreGiven v number s.spots payloads
+      → HasCopied payloads start before s → IsShortAt (version_bytes payloads s.spots) start.taken now.taken f
 
 -- some loads: the steps that are done, each load of them counted once, and what the sink has then taken
 
@@ -157,31 +170,38 @@ pub record HasDone (v w : View) (number : ℕ) (before now : SinkTold) (s : Copy
   pub served : All (λ step. step ≢ Serve) rest
   pub gets : w.told.gets ≡ counted_up v.told.gets (loads done)
   pub full : AllByRecursion (IsFullAt v number s.spots) done
-  pub taken : (payloads : ℕ → List ℕ) → AreGiven v number s.spots payloads → Takes before.taken now.taken (version_bytes payloads s.spots)
+  pub taken : (payloads : ℕ → List ℕ) → AreGiven v number s.spots payloads
+      → Takes before.taken now.taken (version_bytes payloads s.spots)
   pub sum : (s.spots ≡ []) ⊎ IsSummed v number s.spots s.whole
 
--- all bytes of a version with these spots are written, with the fewest loads, and where there are any they have the sum that
--- they should
-pub record IsCopied (v w : View) (number : ℕ) (before now : SinkTold) (spots : List Spot) (whole : Option Whole) (slots n : ℕ) : Type 0 where
+-- all bytes of a version with these spots are written, with the fewest loads, and where there are
+-- any they have the sum that they should
+pub record IsCopied (v w : View) (number : ℕ) (before now : SinkTold) (spots : List Spot)
+    (whole : Option Whole) (slots n : ℕ) : Type 0 where
   pub stays : Stays v w
   pub later : before.faults ≤ now.faults
   pub least : IsLeast (requests (map (λ s. s.id) spots)) slots n
   pub gets : w.told.gets ≡ counted_up v.told.gets n
   pub full : AllByRecursion (λ s. IsFull v number spots s.id) spots
-  pub taken : (payloads : ℕ → List ℕ) → AreGiven v number spots payloads → Takes before.taken now.taken (version_bytes payloads spots)
+  pub taken : (payloads : ℕ → List ℕ) → AreGiven v number spots payloads
+      → Takes before.taken now.taken (version_bytes payloads spots)
   pub sum : (spots ≡ []) ⊎ IsSummed v number spots whole
 
 -- a restore of these spots stopped; so many loads as it had are few
-pub record IsStopped (v w : View) (number : ℕ) (before now : SinkTold) (spots : List Spot) (whole : Option Whole) (IsFew : ℕ → Type 0) (f : Fault) : Type 0 where
+pub record IsRestoreStopped (v w : View) (number : ℕ) (before now : SinkTold) (spots : List Spot)
+    (whole : Option Whole) (IsFew : ℕ → Type 0) (f : Fault) : Type 0 where
   pub stays : Stays v w
   pub later : before.faults ≤ now.faults
   pub loads : ℕ
   pub few : IsFew loads
   pub gets : w.told.gets ≡ counted_up v.told.gets loads
   pub cause : (K : Core) → HasPinned v number spots K → IsCopyFault v w before now K.pins number whole f
-  pub front : (payloads : ℕ → List ℕ) → AreGiven v number spots payloads → TakesFront before now (version_bytes payloads spots)
-  pub found : (payloads : ℕ → List ℕ) → AreGiven v number spots payloads → IsFoundOf (version_bytes payloads spots) f
-  pub short : (payloads : ℕ → List ℕ) → AreGiven v number spots payloads → IsShortAt (version_bytes payloads spots) before.taken now.taken f
+  pub front : (payloads : ℕ → List ℕ) → AreGiven v number spots payloads
+      → HasTakenFront before now (version_bytes payloads spots)
+  pub found : (payloads : ℕ → List ℕ) → AreGiven v number spots payloads
+      → IsFoundOf (version_bytes payloads spots) f
+  pub short : (payloads : ℕ → List ℕ) → AreGiven v number spots payloads
+      → IsShortAt (version_bytes payloads spots) before.taken now.taken f
 
 -- not more than in any plan that serves the requests
 abbrev pub IsAtMostLeast : List ℕ → ℕ → ℕ → Type 0

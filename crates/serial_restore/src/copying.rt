@@ -6,7 +6,7 @@ ghost use Rattle.vault_types.specs.Plans.{requests as requests_of, loads as load
 ghost use Rattle.vault_types.specs.Events.{Core};
 ghost use Rattle.vault_traits.specs.Told.{SinkTold};
 ghost use Rattle.restore_assembler.specs.Copying.{wanted, HasCopied};
-ghost use Rattle.serial_restore.specs.Going.{HasPinned, IsLoadOf, LoadsOne, StopsAt, HasDone, IsCopied, IsStopped, IsAtMostLeast};
+ghost use Rattle.serial_restore.specs.Going.{HasPinned, IsLoadOf, LoadsOne, StopsAt, HasDone, IsCopied, IsRestoreStopped, IsAtMostLeast};
 
 use belady_cache::{plan, requests};
 use keeper_core::Keeper;
@@ -28,8 +28,10 @@ fn load_one<S: Shelf, O: Sink>(
     requires next { wanted copier.old ≡ Some id }
     requires among { has id (map (λ s. s.id) copier.old.spots) ≡ true }
     requires pinned { (K : Core) × HasPinned keeper.old no.now copier.old.spots K }
-    ensures ok { OnOk result (LoadsOne keeper.old keeper.new no.now id (O.told sink.old) (O.told sink.new) copier.old copier.new) }
-    ensures err { IfErr result (StopsAt keeper.old keeper.new no.now (O.told sink.old) (O.told sink.new) copier.old) }
+    ensures ok { OnOk result
+        (LoadsOne keeper.old keeper.new no.now id (O.told sink.old) (O.told sink.new) copier.old copier.new) }
+    ensures err { IfErr result
+        (StopsAt keeper.old keeper.new no.now (O.told sink.old) (O.told sink.new) copier.old) }
 {
     let payload = keeper.load(alloc, no, id)?;
     copier.give(payload, sink)
@@ -47,8 +49,11 @@ fn copy_all<S: Shelf, O: Sink>(
     requires pinned { (K : Core) × HasPinned keeper.old no.now copier.spots K }
     requires start { copier.done ≡ 0 }
     requires fresh { (payloads : ℕ → List ℕ) (told : SinkTold) → HasCopied payloads told told copier }
-    ensures ok { OnOk result (HasDone keeper.old keeper.new no.now (O.told sink.old) (O.told sink.new) copier) }
-    ensures err { IfErr result (IsStopped keeper.old keeper.new no.now (O.told sink.old) (O.told sink.new) copier.spots copier.whole (λ m. m ≤ loads_of copier.steps)) }
+    ensures ok { OnOk result
+        (HasDone keeper.old keeper.new no.now (O.told sink.old) (O.told sink.new) copier) }
+    ensures err { IfErr result
+        (IsRestoreStopped keeper.old keeper.new no.now (O.told sink.old) (O.told sink.new) copier.spots
+        copier.whole (λ m. m ≤ loads_of copier.steps)) }
 {
     while let Some(id) = copier.wants() {
         load_one(alloc, keeper, no, id, &mut copier, sink)?;
@@ -71,8 +76,13 @@ pub fn copy_pinned<S: Shelf, O: Sink>(
     requires some { 1 ≤ slots }
     requires few { slots ≤ 64 }
     requires pinned { (K : Core) × HasPinned keeper.old no.now spots.items K }
-    ensures ok { IfOk result (λ n. IsCopied keeper.old keeper.new no.now (O.told sink.old) (O.told sink.new) spots.items whole slots n) }
-    ensures err { IfErr result (IsStopped keeper.old keeper.new no.now (O.told sink.old) (O.told sink.new) spots.items whole (IsAtMostLeast (requests_of (map (λ s. s.id) spots.items)) slots)) }
+    ensures ok { IfOk result
+        (λ n.
+        IsCopied keeper.old keeper.new no.now (O.told sink.old) (O.told sink.new) spots.items whole slots
+        n) }
+    ensures err { IfErr result
+        (IsRestoreStopped keeper.old keeper.new no.now (O.told sink.old) (O.told sink.new) spots.items whole
+        (IsAtMostLeast (requests_of (map (λ s. s.id) spots.items)) slots)) }
 {
     let reqs = requests(alloc, spots.as_slice())?;
     let planned = plan(alloc, reqs.as_slice(), slots)?;

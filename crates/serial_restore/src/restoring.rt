@@ -7,7 +7,7 @@ ghost use Rattle.vault_types.specs.State.{KeptVersion, floor_of, latest_of, is_k
 ghost use Rattle.vault_traits.specs.Crash.{LeavesNowIfTold, LeavesOnlyIfTold};
 ghost use Rattle.keeper_catalog.specs.View.{Keeps};
 ghost use Rattle.store_model.specs.Calls.{RestoresLine};
-ghost use Rattle.serial_delete.specs.Keeping.{IsStateWith, IsKnownStray};
+ghost use Rattle.keeper_core.specs.Keeping.{IsStateWith, IsKnownStray};
 ghost use Rattle.serial_restore.specs.Restoring.{whole_of as whole_is, IsRestoreFault, HasStayed, IsRestored, IsCut, WhereTold, HasGone};
 
 use crate::copying::copy_pinned;
@@ -80,9 +80,12 @@ pub fn restore_plain<S: Shelf, O: Sink>(
 ) -> Result<Answer, Fault>
     requires some { 1 ≤ slots }
     requires few { slots ≤ 64 }
-    ensures exact { (K : Core) → Keeps keeper.old K → is_kept K.state set version ≡ false → result ≡ Err (fault.NotKept set version (floor_of K.state set) (latest_of K.state set)) }
-    ensures still { (K : Core) → Keeps keeper.old K → is_kept K.state set version ≡ false → (keeper.new ≡ keeper.old) × (O.told sink.new ≡ O.told sink.old) }
-    ensures cause { IfErr result (λ f. (K : Core) → Keeps keeper.old K → IsRestoreFault keeper.old keeper.new (O.told sink.old) (O.told sink.new) K.state set version f) }
+    ensures exact { (K : Core) → Keeps keeper.old K → is_kept K.state set version ≡ false
+        → result ≡ Err (fault.NotKept set version (floor_of K.state set) (latest_of K.state set)) }
+    ensures still { (K : Core) → Keeps keeper.old K → is_kept K.state set version ≡ false
+        → (keeper.new ≡ keeper.old) × (O.told sink.new ≡ O.told sink.old) }
+    ensures cause { IfErr result (λ f. (K : Core) → Keeps keeper.old K
+        → IsRestoreFault keeper.old keeper.new (O.told sink.old) (O.told sink.new) K.state set version f) }
     ensures later { keeper.old.told.faults ≤ keeper.new.told.faults }
 
     // Nothing more is pinned, and no name of the store becomes a stray.
@@ -90,15 +93,24 @@ pub fn restore_plain<S: Shelf, O: Sink>(
     ensures state { (K : Core) → Keeps keeper.old K → HasStayed keeper.old keeper.new K set version }
 
     // A crash at any moment leaves what it could leave before.
-    ensures any_moment { (K : Core) → Keeps keeper.old K → LeavesNowIfTold keeper.old.told.history (IsNear K.state K.other)
+    ensures any_moment { (K : Core) → Keeps keeper.old K
+        → LeavesNowIfTold keeper.old.told.history (IsNear K.state K.other)
         → LeavesOnlyIfTold keeper.old.told.history keeper.new.told.history (IsNear K.state K.other) }
 
     // The bytes are those of the version, and each load counts once; an error comes before all is taken or has no more loads.
-    ensures ok { IfOk result (λ answer. WhereTold keeper.old set version (λ K k. IsRestored keeper.old keeper.new (O.told sink.old) (O.told sink.new) K set version k slots answer)) }
-    ensures err { OnErr result (WhereTold keeper.old set version (λ K k. IsCut keeper.old keeper.new (O.told sink.old) (O.told sink.new) K set version k slots)) }
+    ensures ok { IfOk result
+        (λ answer.
+        WhereTold keeper.old set version
+        (λ K k.
+        IsRestored keeper.old keeper.new (O.told sink.old) (O.told sink.new) K set version k slots
+        answer)) }
+    ensures err { OnErr result
+        (WhereTold keeper.old set version
+        (λ K k. IsCut keeper.old keeper.new (O.told sink.old) (O.told sink.new) K set version k slots)) }
 
     // What a line of a script is to do, in each state that the keeper keeps.
-    ensures line { (pins : List Pin) → RestoresLine (IsStateWith keeper.old pins) (IsStateWith keeper.new pins)
+    ensures line { (pins : List Pin)
+        → RestoresLine (IsStateWith keeper.old pins) (IsStateWith keeper.new pins)
         (IsKnownStray keeper.old) (IsKnownStray keeper.new) set version slots keeper.old.told keeper.new.told
         (O.told sink.old) (O.told sink.new) result }
 {

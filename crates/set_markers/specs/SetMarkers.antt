@@ -7,8 +7,8 @@ use Rattle.vault_types.specs.Lists.{has}
 use Rattle.vault_types.specs.Marks.{Mark, marked_ids}
 use Rattle.marker_gc.specs.Markers.{marker_of}
 
--- by set and container the markers, the named containers, each once, and for how many markers and containers more there
--- is room; both lists are in no order
+-- by set and container the markers, the named containers, each once, and for how many markers and
+-- containers more there is room; both lists are in no order
 pub record Marked : Type 0 where
   pub markers : List ((ℕ × ℕ) × ℕ)
   pub ids : List ℕ

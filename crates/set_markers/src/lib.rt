@@ -38,7 +38,12 @@ impl Model for SetMarkers {
 
     ghost Value = { Marked };
 
-    ghost view = { λ m. record { markers = m.markers.entries; ids = map (λ e. e.0) m.counts.entries; room = min (spare m.markers) (spare m.counts) } };
+    ghost view = { λ m.
+        record {
+          markers = m.markers.entries;
+          ids = map (λ e. e.0) m.counts.entries;
+          room = min (spare m.markers) (spare m.counts);
+        } };
 
     ghost invariant = { λ m. AreCounts m.counts.entries m.markers.entries };
 }
@@ -60,7 +65,8 @@ impl SetMarkers {
         ensures made { OnOk result (more ≤ self.new.room) }
         ensures room { self.old.room ≤ self.new.room }
         ensures count { length self.new.ids ≡ length self.old.ids }
-        ensures same { (marks : List Mark) → AreMarkersOfSets self.old marks → AreMarkersOfSets self.new marks }
+        ensures same { (marks : List Mark) → AreMarkersOfSets self.old marks
+            → AreMarkersOfSets self.new marks }
     {
         self.markers.reserve(more)?;
         self.counts.reserve(more)?;
@@ -72,7 +78,8 @@ impl SetMarkers {
     pub fn commit(&mut self, set: Set, version: Version, ids: &[Id])
         requires { length ids.now ≤ self.old.room }
         ensures room { self.old.room ≤ self.new.room + length ids.now }
-        ensures marks { (marks : List Mark) → AreMarkersOfSets self.old marks → AreMarkersOfSets self.new (marks ++ marks_of set version ids.now) }
+        ensures marks { (marks : List Mark) → AreMarkersOfSets self.old marks
+            → AreMarkersOfSets self.new (marks ++ marks_of set version ids.now) }
     {
         mark_all(&mut self.markers, &mut self.counts, set, version, ids);
     }
@@ -87,7 +94,8 @@ impl SetMarkers {
     /// How many containers are named, whatever the number of sets that name them. Takes no memory.
     pub fn count(&self) -> usize
         ensures count { result ≡ length self.now.ids }
-        ensures ids { (marks : List Mark) → AreMarkersOfSets self.now marks → result ≡ length (marked_ids marks) }
+        ensures ids { (marks : List Mark) → AreMarkersOfSets self.now marks
+            → result ≡ length (marked_ids marks) }
     {
         self.counts.len()
     }
@@ -96,8 +104,10 @@ impl SetMarkers {
     /// that no other set names. `out` has room for as many ids as are named. Takes no memory.
     pub fn take_below(&mut self, set: Set, floor: Version, out: &mut Vec<Id>)
         requires { vec_len out.old + length self.old.ids ≤ vec_capacity out.old }
-        ensures freed { (marks : List Mark) → AreMarkersOfSets self.old marks → out.new.items ≡ out.old.items ++ freed_ids set floor marks }
-        ensures left { (marks : List Mark) → AreMarkersOfSets self.old marks → AreMarkersOfSets self.new (marks_above set floor marks) }
+        ensures freed { (marks : List Mark) → AreMarkersOfSets self.old marks
+            → out.new.items ≡ out.old.items ++ freed_ids set floor marks }
+        ensures left { (marks : List Mark) → AreMarkersOfSets self.old marks
+            → AreMarkersOfSets self.new (marks_above set floor marks) }
         ensures room { self.old.room ≤ self.new.room }
         ensures capacity { vec_capacity out.old ≤ vec_capacity out.new }
     {
@@ -112,6 +122,9 @@ impl SetMarkers {
 /// is named stands in some commit since it was last taken, and what a floor takes of it stands in no commit whose version
 /// is at or above the last floor of its set.
 pub fn taken_ids_are_in_no_kept_version()
-    ensures named { (c : ℕ) (steps : List MarkerStep) → FloorsRise steps → has c (marked_ids (marks_after steps)) ≡ stands_since steps c }
-    ensures taken { (s floor c : ℕ) (steps : List MarkerStep) → FloorsRise (Taken s floor ∷ steps) → has c (freed_ids s floor (marks_after steps)) ≡ (stands_since steps c && not (stands_above (floor_after (Taken s floor ∷ steps)) steps c)) }
+    ensures named { (c : ℕ) (steps : List MarkerStep) → FloorsRise steps
+        → has c (marked_ids (marks_after steps)) ≡ stands_since steps c }
+    ensures taken { (s floor c : ℕ) (steps : List MarkerStep) → FloorsRise (Taken s floor ∷ steps)
+        → has c (freed_ids s floor (marks_after steps))
+        ≡ (stands_since steps c && not (stands_above (floor_after (Taken s floor ∷ steps)) steps c)) }
 {}

@@ -13,8 +13,14 @@ use vault_types::{Id, Set, Version};
 /// Sets the marker of a container in a set.
 fn set_marker(markers: &mut HashMap<(Set, Id), Version>, set: Set, id: Id, marker: Version)
     requires { 1 ≤ spare markers.old }
-    ensures set { (s c : ℕ) → lookup (is_key s c) markers.new.entries ≡ (if is_key set id (s, c) then Some marker else lookup (is_key s c) markers.old.entries) }
-    ensures count { (c : ℕ) → count_of c markers.new.entries ≡ count_of c markers.old.entries + (if is_some (lookup (is_key set id) markers.old.entries) then 0 else if nat_eq id c then 1 else 0) }
+    ensures set { (s c : ℕ)
+        → lookup (is_key s c) markers.new.entries
+        ≡ (if is_key set id (s, c) then Some marker else lookup (is_key s c) markers.old.entries) }
+    ensures count { (c : ℕ)
+        → count_of c markers.new.entries
+        ≡ count_of c markers.old.entries
+        + (if is_some (lookup (is_key set id) markers.old.entries) then 0 else if nat_eq id c then 1
+        else 0) }
     ensures room { spare markers.old ≤ spare markers.new + 1 }
 {
     let _ = markers.insert((set, id), marker);
@@ -23,8 +29,11 @@ fn set_marker(markers: &mut HashMap<(Set, Id), Version>, set: Set, id: Id, marke
 /// Takes the marker of a container in a set out.
 fn take_marker(markers: &mut HashMap<(Set, Id), Version>, set: Set, id: Id)
     requires { IsSome (lookup (is_key set id) markers.old.entries) }
-    ensures taken { (s c : ℕ) → lookup (is_key s c) markers.new.entries ≡ (if is_key set id (s, c) then None else lookup (is_key s c) markers.old.entries) }
-    ensures count { (c : ℕ) → count_of c markers.new.entries + (if nat_eq id c then 1 else 0) ≡ count_of c markers.old.entries }
+    ensures taken { (s c : ℕ)
+        → lookup (is_key s c) markers.new.entries
+        ≡ (if is_key set id (s, c) then None else lookup (is_key s c) markers.old.entries) }
+    ensures count { (c : ℕ)
+        → count_of c markers.new.entries + (if nat_eq id c then 1 else 0) ≡ count_of c markers.old.entries }
     ensures room { spare markers.old ≤ spare markers.new }
 {
     markers.remove(&(set, id));
@@ -33,7 +42,9 @@ fn take_marker(markers: &mut HashMap<(Set, Id), Version>, set: Set, id: Id)
 /// Sets the count of a container.
 fn set_count(counts: &mut HashMap<Id, usize>, id: Id, count: usize)
     requires { 1 ≤ spare counts.old }
-    ensures set { (c : ℕ) → lookup (nat_eq c) counts.new.entries ≡ (if nat_eq id c then Some count else lookup (nat_eq c) counts.old.entries) }
+    ensures set { (c : ℕ)
+        → lookup (nat_eq c) counts.new.entries
+        ≡ (if nat_eq id c then Some count else lookup (nat_eq c) counts.old.entries) }
     ensures once { IsUnique nat_eq counts.new }
     ensures room { spare counts.old ≤ spare counts.new + 1 }
 {
@@ -43,7 +54,9 @@ fn set_count(counts: &mut HashMap<Id, usize>, id: Id, count: usize)
 /// Changes the count of a container that has one.
 fn change_count(counts: &mut HashMap<Id, usize>, id: Id, count: usize)
     requires { IsSome (lookup (nat_eq id) counts.old.entries) }
-    ensures set { (c : ℕ) → lookup (nat_eq c) counts.new.entries ≡ (if nat_eq id c then Some count else lookup (nat_eq c) counts.old.entries) }
+    ensures set { (c : ℕ)
+        → lookup (nat_eq c) counts.new.entries
+        ≡ (if nat_eq id c then Some count else lookup (nat_eq c) counts.old.entries) }
     ensures once { IsUnique nat_eq counts.new }
     ensures room { spare counts.old ≤ spare counts.new }
 {
@@ -64,7 +77,11 @@ fn mark(
     requires markers { 1 ≤ spare markers.old }
     requires counts { 1 ≤ spare counts.old }
     ensures counted { AreCounts counts.new.entries markers.new.entries }
-    ensures marked { (s c : ℕ) → lookup (is_key s c) markers.new.entries ≡ (if is_key set id (s, c) then Some (option_map_or (max version) (lookup (is_key s c) markers.old.entries) version) else lookup (is_key s c) markers.old.entries) }
+    ensures marked { (s c : ℕ)
+        → lookup (is_key s c) markers.new.entries
+        ≡ (if is_key set id (s, c)
+        then Some (option_map_or (max version) (lookup (is_key s c) markers.old.entries) version)
+        else lookup (is_key s c) markers.old.entries) }
     ensures once { IsUnique nat_eq counts.old → IsUnique nat_eq counts.new }
     ensures markers { spare markers.old ≤ spare markers.new + 1 }
     ensures counts { spare counts.old ≤ spare counts.new + 1 }
@@ -94,7 +111,11 @@ pub fn mark_all(
     requires markers { length ids.now ≤ spare markers.old }
     requires counts { length ids.now ≤ spare counts.old }
     ensures counted { AreCounts counts.new.entries markers.new.entries }
-    ensures marked { (s c : ℕ) → lookup (is_key s c) markers.new.entries ≡ (if nat_eq set s && has c ids.now then Some (option_map_or (max version) (lookup (is_key s c) markers.old.entries) version) else lookup (is_key s c) markers.old.entries) }
+    ensures marked { (s c : ℕ)
+        → lookup (is_key s c) markers.new.entries
+        ≡ (if nat_eq set s && has c ids.now
+        then Some (option_map_or (max version) (lookup (is_key s c) markers.old.entries) version)
+        else lookup (is_key s c) markers.old.entries) }
     ensures once { IsUnique nat_eq counts.old → IsUnique nat_eq counts.new }
     ensures markers { spare markers.old ≤ spare markers.new + length ids.now }
     ensures counts { spare counts.old ≤ spare counts.new + length ids.now }
@@ -123,7 +144,8 @@ pub fn push_below(
     out: &mut Vec<Id>,
 )
     requires { vec_len out.old + hash_map_len counts.now ≤ vec_capacity out.old }
-    ensures ids { out.new.items ≡ out.old.items ++ filter (below set floor markers.now.entries) (map (λ e. e.0) counts.now.entries) }
+    ensures ids { out.new.items
+        ≡ out.old.items ++ filter (below set floor markers.now.entries) (map (λ e. e.0) counts.now.entries) }
     ensures once { IsUnique nat_eq counts.now }
     ensures capacity { vec_capacity out.old ≤ vec_capacity out.new }
 {
@@ -145,8 +167,11 @@ fn forget(
     requires marked { IsSome (lookup (is_key set id) markers.old.entries) }
     ensures counted { AreCounts counts.new.entries markers.new.entries }
     ensures last { result ≡ nat_eq (count_of id markers.old.entries) 1 }
-    ensures forgotten { (s c : ℕ) → lookup (is_key s c) markers.new.entries ≡ (if is_key set id (s, c) then None else lookup (is_key s c) markers.old.entries) }
-    ensures fewer { (c : ℕ) → count_of c markers.new.entries ≡ count_of c markers.old.entries - (if nat_eq id c then 1 else 0) }
+    ensures forgotten { (s c : ℕ)
+        → lookup (is_key s c) markers.new.entries
+        ≡ (if is_key set id (s, c) then None else lookup (is_key s c) markers.old.entries) }
+    ensures fewer { (c : ℕ)
+        → count_of c markers.new.entries ≡ count_of c markers.old.entries - (if nat_eq id c then 1 else 0) }
     ensures once { IsUnique nat_eq counts.new }
     ensures markers { spare markers.old ≤ spare markers.new }
     ensures counts { spare counts.old ≤ spare counts.new }
@@ -178,8 +203,11 @@ fn keep_last(
     ensures counted { AreCounts counts.new.entries markers.new.entries }
     ensures within { result ≤ length ids.old }
     ensures kept { take result ids.new ≡ filter (λ c. nat_eq (count_of c markers.old.entries) 1) ids.old }
-    ensures forgotten { (s c : ℕ) → lookup (is_key s c) markers.new.entries ≡ (if nat_eq set s && has c ids.old then None else lookup (is_key s c) markers.old.entries) }
-    ensures fewer { (c : ℕ) → count_of c markers.new.entries ≡ count_of c markers.old.entries - (if has c ids.old then 1 else 0) }
+    ensures forgotten { (s c : ℕ)
+        → lookup (is_key s c) markers.new.entries
+        ≡ (if nat_eq set s && has c ids.old then None else lookup (is_key s c) markers.old.entries) }
+    ensures fewer { (c : ℕ)
+        → count_of c markers.new.entries ≡ count_of c markers.old.entries - (if has c ids.old then 1 else 0) }
     ensures unique { IsUnique nat_eq counts.old → IsUnique nat_eq counts.new }
     ensures markers { spare markers.old ≤ spare markers.new }
     ensures counts { spare counts.old ≤ spare counts.new }
@@ -207,11 +235,19 @@ pub fn forget_from(
     requires start { start ≤ vec_len ids.old }
     requires counted { AreCounts counts.old.entries markers.old.entries }
     requires once { IsDistinct nat_eq (drop start ids.old.items) }
-    requires marked { AllByRecursion (λ c. IsSome (lookup (is_key set c) markers.old.entries)) (drop start ids.old.items) }
+    requires marked { AllByRecursion (λ c. IsSome (lookup (is_key set c) markers.old.entries))
+        (drop start ids.old.items) }
     ensures counted { AreCounts counts.new.entries markers.new.entries }
-    ensures kept { ids.new.items ≡ take start ids.old.items ++ filter (λ c. nat_eq (count_of c markers.old.entries) 1) (drop start ids.old.items) }
-    ensures forgotten { (s c : ℕ) → lookup (is_key s c) markers.new.entries ≡ (if nat_eq set s && has c (drop start ids.old.items) then None else lookup (is_key s c) markers.old.entries) }
-    ensures fewer { (c : ℕ) → count_of c markers.new.entries ≡ count_of c markers.old.entries - (if has c (drop start ids.old.items) then 1 else 0) }
+    ensures kept { ids.new.items
+        ≡ take start ids.old.items
+        ++ filter (λ c. nat_eq (count_of c markers.old.entries) 1) (drop start ids.old.items) }
+    ensures forgotten { (s c : ℕ)
+        → lookup (is_key s c) markers.new.entries
+        ≡ (if nat_eq set s && has c (drop start ids.old.items) then None
+        else lookup (is_key s c) markers.old.entries) }
+    ensures fewer { (c : ℕ)
+        → count_of c markers.new.entries
+        ≡ count_of c markers.old.entries - (if has c (drop start ids.old.items) then 1 else 0) }
     ensures unique { IsUnique nat_eq counts.old → IsUnique nat_eq counts.new }
     ensures markers { spare markers.old ≤ spare markers.new }
     ensures counts { spare counts.old ≤ spare counts.new }

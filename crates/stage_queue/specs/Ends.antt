@@ -15,8 +15,10 @@ pub record Receiver (T : Type 0) : Type 0 where
 
 abbrev pub sender_code : {T : Type 0} → Coded T → Coded (Sender T)
 sender_code {T} c =
-    code_by (TableId × List T) (coded× table_id_coded (coded_list c)) (λ e. (e.line, e.sent)) (λ p. record { line = p.0; sent = p.1 }) (λ _. refl)
+    code_by (TableId × List T) (coded× table_id_coded (coded_list c)) (λ e. (e.line, e.sent))
+    (λ p. record { line = p.0; sent = p.1 }) (λ _. refl)
 
 abbrev pub receiver_code : {T : Type 0} → Coded T → Coded (Receiver T)
 receiver_code {T} c =
-    code_by (TableId × List T) (coded× table_id_coded (coded_list c)) (λ e. (e.line, e.taken)) (λ p. record { line = p.0; taken = p.1 }) (λ _. refl)
+    code_by (TableId × List T) (coded× table_id_coded (coded_list c)) (λ e. (e.line, e.taken))
+    (λ p. record { line = p.0; taken = p.1 }) (λ _. refl)

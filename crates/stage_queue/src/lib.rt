@@ -55,7 +55,8 @@ impl<T> Model for Tx<T> {
 
     ghost view = { λ t. record { line = t.pass.table_id; sent = (knows t.pass).sent } };
 
-    ghost invariant = { λ t. IsPassOf (arc_value t.queue) t.pass × (knows t.pass ≡ log true false (knows t.pass).sent []) };
+    ghost invariant = { λ t. IsPassOf (arc_value t.queue) t.pass
+        × (knows t.pass ≡ log true false (knows t.pass).sent []) };
 }
 
 /// The end of a line that takes. Contracts see its line, and the list of all that was taken.
@@ -78,7 +79,8 @@ impl<T> Model for Rx<T> {
 
     ghost view = { λ r. record { line = r.pass.table_id; taken = (knows r.pass).taken } };
 
-    ghost invariant = { λ r. IsPassOf (arc_value r.queue) r.pass × (knows r.pass ≡ log false true [] (knows r.pass).taken) };
+    ghost invariant = { λ r. IsPassOf (arc_value r.queue) r.pass
+        × (knows r.pass ≡ log false true [] (knows r.pass).taken) };
 }
 
 impl<T> Tx<T> {
@@ -87,7 +89,8 @@ impl<T> Tx<T> {
     pub fn offer<R: Wait>(&mut self, rt: &R, item: T) -> Result<(), T>
         ensures sent { OnOk result (self.new ≡ record self.old { sent = self.old.sent ++ item ∷ [] }) }
         ensures back { IfErr result (λ x. (x ≡ item) × (self.new ≡ self.old)) }
-        ensures full { OnErr result ((taken waiting : List T) × IsLine self.old.sent taken waiting × (length waiting ≡ self.old.line.slots)) }
+        ensures full { OnErr result ((taken waiting : List T) × IsLine self.old.sent taken waiting
+            × (length waiting ≡ self.old.line.slots)) }
     {
         self.queue.push_as::<Sends, R>(rt, &mut self.pass, item)
     }

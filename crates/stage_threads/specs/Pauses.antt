@@ -1,4 +1,5 @@
--- The pause after so many pauses in a row: 1 to 64 spins, then 32 times the processor is left to others, then sleeps, the first of 32 microseconds, each twice as long as the one before.
+-- The pause after so many pauses in a row: 1 to 64 spins, then 32 times the processor is left to
+-- others, then sleeps, the first of 32 microseconds, each twice as long as the one before.
 use Rattle.std.specs.Prelude.{ℕ, ◌*◌, ◌-◌, ◌^◌, nat_lt, if◌then◌else◌}
 use Rattle.stage_threads.specs.declared.back_off.Pause.{Pause}
 use Rattle.stage_threads.specs.declared.back_off.Pause.TheVariants.{Spin, Yield, Sleep}

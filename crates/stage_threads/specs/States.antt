@@ -10,7 +10,7 @@ StandsFor same first (Thread handle) = handle.promise.0.value ≡ first
 StandsFor same first (Kept stage) = same first stage
 
 -- the stage itself, where it is kept
-abbrev pub kept_of : {S : Type 0} → State S → Option S
-kept_of Away = None
-kept_of (Thread handle) = None
-kept_of (Kept stage) = Some stage
+abbrev pub kept_stage : {S : Type 0} → State S → Option S
+kept_stage Away = None
+kept_stage (Thread handle) = None
+kept_stage (Kept stage) = Some stage

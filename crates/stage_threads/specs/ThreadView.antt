@@ -1,4 +1,5 @@
--- What contracts see of a stage with its thread: the stage that was handed in, and the stage as it is now if it is kept.
+-- What contracts see of a stage with its thread: the stage that was handed in, and the stage as it
+-- is now if it is kept.
 use Rattle.std.specs.Prelude.{Option, refl}
 use Rattle.std.specs.Coded.{Coded, code_by, coded×, coded_option}
 
@@ -8,4 +9,5 @@ pub record ThreadView (S : Type 0) : Type 0 where
 
 abbrev pub view_code : {S : Type 0} → Coded S → Coded (ThreadView S)
 view_code {S} c =
-    code_by (S × Option S) (coded× c (coded_option c)) (λ t. (t.first, t.kept)) (λ p. record { first = p.0; kept = p.1 }) (λ _. refl)
+    code_by (S × Option S) (coded× c (coded_option c)) (λ t. (t.first, t.kept))
+    (λ p. record { first = p.0; kept = p.1 }) (λ _. refl)

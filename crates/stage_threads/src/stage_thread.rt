@@ -47,9 +47,9 @@ impl<S: Stage> Model for StageThread<S> {
 
     ghost coded = { view_code S.code };
 
-    ghost use Rattle.stage_threads.specs.States.{StandsFor, kept_of};
+    ghost use Rattle.stage_threads.specs.States.{StandsFor, kept_stage};
 
-    ghost view = { λ t. record { first = t.first.value; kept = kept_of t.state.value } };
+    ghost view = { λ t. record { first = t.first.value; kept = kept_stage t.state.value } };
 
     ghost invariant = { λ t. StandsFor S.same t.first.value t.state.value };
 }
@@ -165,7 +165,8 @@ impl<S: Stage> StageThread<S> {
     /// One turn of the stage if it is kept, and else `Done`.
     pub fn turn<R: Wait>(&mut self, rt: &R) -> Turn
         ensures first { self.new.first ≡ self.old.first }
-        ensures kept { IfSome self.old.kept (λ s. IsSomeAnd self.new.kept (λ t. S.same s t × S.turned s result t)) }
+        ensures kept { IfSome self.old.kept
+            (λ s. IsSomeAnd self.new.kept (λ t. S.same s t × S.turned s result t)) }
         ensures thread { IfNone self.old.kept ((result ≡ Done) × (self.new.kept ≡ None)) }
     {
         match &mut *self.state {
@@ -179,7 +180,8 @@ impl<S: Stage> StageThread<S> {
     /// gives the kept ones turns until all are done, since one may wait for another.
     pub fn end<R: Threads + Wait + Clock>(self, rt: &R) -> S
         ensures same { S.same self.first result }
-        ensures kept { IsSome self.kept → (before : S) × S.same self.first before × S.turned before Done result }
+        ensures kept { IsSome self.kept
+            → (before : S) × S.same self.first before × S.turned before Done result }
     {
         let StageThread { state, first: _ } = self;
         match Box::into_inner(state) {

@@ -1,13 +1,12 @@
 -- The empty store: it is valid, and no blobs stand for it.
-use Rattle.std.proofs.Common.{◌≡◌, ◌≢◌, ◌⊎◌, inl, inr, ℕ, zero, suc, ◌<◌, ◌≤◌, ◌+◌, ◌-◌, length, map, Bool, true, false, cond, List, [], ◌∷◌, ◌++◌, Option, Some, None, refl, sym, ◌∙◌, ap, subst, arith, replicate}
-use Rattle.std.specs.Prelude.{fold, max, Contains, IsSome, IfSome, slice_index_or, flat_map, nat_lt, slice_get}
+use Rattle.std.proofs.Common.{◌≡◌, inr, ℕ, zero, suc, ◌+◌, ◌-◌, length, map, Bool, true, false, cond, [], Option, None, refl, sym, ◌∙◌, ap, subst, arith, replicate}
+use Rattle.std.specs.Prelude.{fold, max, IfSome, slice_index_or, nat_lt, slice_get}
 use Rattle.std.specs.List.{AllByRecursion}
 use Rattle.vault_types.specs.Lists.{set_of}
-use Rattle.vault_types.specs.declared.Row.{Row}
 use Rattle.std.specs.FinMap as fin
 use Rattle.vault_types.specs.declared.Name.{Name}
-use Rattle.vault_types.specs.State.{State, Dataset, KeptVersion, empty_dataset, empty_state, dataset, floor_of, latest_of, next_of, next_in, version_of, version_in, all_rows, named_in, IsDataset, IsValid, HasFp}
-use Rattle.vault_types.specs.Shelf.{Blobs, table_name, payload_name, recipe_name, floor_name, IsRecipeBlob, Stands}
+use Rattle.vault_types.specs.State.{Dataset, KeptVersion, empty_dataset, empty_state, floor_of, latest_of, next_of, next_in, version_of, version_in, all_rows, IsDataset, IsValid, HasFp}
+use Rattle.vault_types.specs.Shelf.{Blobs, recipe_name, floor_name, IsRecipeBlob, Stands}
 
 all_empty : (n : ℕ) → AllByRecursion IsDataset (replicate n empty_dataset)
 all_empty zero = tt

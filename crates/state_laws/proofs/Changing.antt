@@ -1,21 +1,20 @@
 -- Mending, and writes that lead from one state to another.
-use Rattle.std.proofs.Common.{◌≡◌, ◌≢◌, ◌⊎◌, inl, inr, ⊎_elim, ℕ, zero, suc, ◌-◌, Bool, true, false, cond, ◌<◌, ◌≤◌, ◌+◌, ◌*◌, ◌^◌, length, List, [], ◌∷◌, ◌++◌, Option, Some, None, refl, sym, ◌∙◌, ap, subst, arith}
-use Rattle.std.specs.Prelude.{Result, Ok, Err, OnOk, OnErr, is_err, is_ok, Contains, IsSome, IfSome, IsSomeAnd, slice_get, slice_index_or, nat_lt}
+use Rattle.std.proofs.Common.{◌≡◌, ◌≢◌, ◌⊎◌, inl, inr, ⊎_elim, ℕ, zero, suc, ◌-◌, true, false, cond, ◌<◌, ◌≤◌, ◌+◌, ◌*◌, ◌^◌, length, List, [], ◌∷◌, Option, Some, None, refl, sym, ◌∙◌, ap, subst, arith}
+use Rattle.std.specs.Prelude.{Result, Ok, Err, OnOk, OnErr, is_err, IsSome, IfSome, slice_get, slice_index_or, nat_lt}
 use Rattle.std.specs.List.{AllByRecursion}
 use Rattle.std.proofs.lemmas.Bool.Decides.{nat_tests}
 use Rattle.std.specs.FinMap as fin
 use Rattle.vault_types.specs.declared.Name.{Name}
-use Rattle.vault_types.specs.declared.Kind.{Kind}
 use Rattle.vault_types.specs.Tables.{Container}
 use Rattle.vault_types.specs.State.{State, Dataset, KeptVersion, dataset, empty_dataset, latest_in, latest_of, floor_of, version_in, version_of, IsDataset, IsValid}
 use Rattle.vault_types.specs.Blobs.{floor_bytes}
-use Rattle.vault_types.specs.Shelf.{Blobs, with_blob, blob_at, table_name, payload_name, recipe_name, floor_name, HasContainer, IsFloorBlob, IsRecipeBlob, Stands}
-use Rattle.vault_types.specs.Events.{Core, Change, pinned_containers, put_by, IsContainerName, IsRecipeName, IsFloorName, IsNeeded, Held, HasChange, IsNear, IsChange}
-use Rattle.vault_traits.specs.Crash.{ShelfStep, Wrote, Settled, History, LeavesNow, LeavesNowIfTold, LeavesOnly, LeavesOnlyIfTold, ReadsAnImage}
+use Rattle.vault_types.specs.Shelf.{Blobs, with_blob, table_name, payload_name, recipe_name, floor_name, IsFloorBlob, IsRecipeBlob, Stands}
+use Rattle.vault_types.specs.Events.{Core, Change, pinned_containers, IsNeeded, Held, IsNear}
+use Rattle.vault_traits.specs.Crash.{Wrote, History, LeavesNowIfTold, LeavesOnlyIfTold, ReadsAnImage}
 use Rattle.vault_traits.specs.Shelf.{blobs_with, history_with, history_settled, IsWritten, MayBeWritten}
 use Rattle.vault_traits.proofs.Maps.{get_other, get_is, is_or_not, written_or_other, with_blob_comm, with_blob_twice}
-use Rattle.vault_traits.proofs.Moments.{stays, writes, may_write, settles, settled_now, writes_once, told_or_silent, silent, silent_write, silent_settle, more_now, more, then, ends}
-use Rattle.state_laws.specs.Parts.{IsNoLater, IsFree, IsIdle, IsSpare, HeldIfTold, with_strays, IsOf, mended_blobs, CanChange, Changes, without_other, change, Mends, CanClean}
+use Rattle.vault_traits.proofs.Moments.{stays, settles, settled_now, writes_once, told_or_silent, silent, silent_write, silent_settle, more_now, more, then, ends}
+use Rattle.state_laws.specs.Parts.{IsFree, HeldIfTold, IsOf, mended_blobs, CanChange, Changes, without_other, change, Mends}
 use Rattle.state_laws.proofs.Standing.{free_write, keeps_container, needs_floor}
 
 -- kinds tell names apart

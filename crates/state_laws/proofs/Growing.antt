@@ -1,29 +1,28 @@
 -- What a commit leaves of a state and its blobs.
-use Rattle.std.proofs.Common.{◌≡◌, ◌≢◌, ◌⊎◌, inl, inr, ⊎_elim, ℕ, zero, suc, ◌<◌, ◌≤◌, ◌+◌, ◌-◌, length, map, Bool, true, false, cond, List, [], ◌∷◌, ◌++◌, Option, Some, None, refl, sym, ◌∙◌, ap, subst, arith, get_or, length-append}
-use Rattle.std.specs.Prelude.{Contains, IsSome, IfSome, IsSomeAnd, slice_index_or, slice_get, slice_set, nat_eq, nat_lt, flat_map, IsTrue}
+use Rattle.std.proofs.Common.{◌≡◌, ◌≢◌, ◌⊎◌, inl, inr, ⊎_elim, ℕ, zero, suc, ◌<◌, ◌≤◌, ◌+◌, ◌-◌, length, Bool, true, false, cond, List, [], ◌∷◌, ◌++◌, Option, Some, None, refl, sym, ◌∙◌, ap, subst, arith, length-append}
+use Rattle.std.specs.Prelude.{Contains, IsSome, IfSome, IsSomeAnd, slice_index_or, slice_get, nat_eq, nat_lt, flat_map, IsTrue}
 use Rattle.std.specs.List.{AllByRecursion}
 use Rattle.std.proofs.lemmas.List.{get_or-set_same, get_or-set_other, length-set}
 use Rattle.std.proofs.lemmas.List.Elements.{Contains-append_left, Contains-append_right, Contains-append_cases, Contains-push, Contains-push_cases}
 use Rattle.std.proofs.lemmas.Bool.Decides.{nat_tests}
 use Rattle.std.specs.FinMap as fin
 use Rattle.vault_types.specs.declared.Name.{Name}
-use Rattle.vault_types.specs.declared.Fp.{Fp}
 use Rattle.vault_types.specs.declared.Row.{Row}
 use Rattle.vault_types.specs.declared.Pending.{Pending}
 use Rattle.vault_types.specs.Names.{fp}
-use Rattle.vault_types.specs.Tables.{Container, id_of, has_fp}
+use Rattle.vault_types.specs.Tables.{Container, has_fp}
 use Rattle.vault_types.specs.State.{State, Dataset, KeptVersion, dataset, empty_dataset, latest_in, latest_of, floor_of, version_in, version_of, recipe_of, all_rows, HasFp, IsDataset, IsValid}
 use Rattle.vault_types.specs.Bytes.{bytes_of}
-use Rattle.vault_types.specs.Blobs.{recipe_bytes_1, recipe_bytes_2, floor_bytes}
+use Rattle.vault_types.specs.Blobs.{recipe_bytes_2}
 use Rattle.vault_types.specs.Backup.{with_new_version}
-use Rattle.vault_types.specs.Shelf.{Blobs, with_blob, table_name, payload_name, recipe_name, floor_name, HasContainer, IsFloorBlob, IsRecipeBlob, Stands}
-use Rattle.vault_types.specs.Events.{Core, Job, Change, Pin, put_by, pinned_containers, IsContainerName, IsRecipeName, IsFloorName, IsNeeded, Held, HasChange, IsNear, after_commit, after_refused, committed}
+use Rattle.vault_types.specs.Shelf.{Blobs, with_blob, recipe_name, floor_name, HasContainer, IsFloorBlob, IsRecipeBlob, Stands}
+use Rattle.vault_types.specs.Events.{Core, Job, Change, put_by, pinned_containers, IsNeeded, Held, HasChange, after_commit, after_refused, committed}
 use Rattle.vault_types.proofs.GrowLemmas.{version_of-new, version_of-kept, bytes_of-kept}
 use Rattle.vault_traits.specs.Shelf.{blobs_with}
 use Rattle.state_laws.specs.Parts.{HeldIfTold, CanChange, change}
-use Rattle.vault_traits.proofs.Maps.{get_other, get_is, is_or_not, written_or_other}
-use Rattle.state_laws.proofs.Standing.{keeps_container, needs_recipe, needs_floor}
-use Rattle.state_laws.proofs.Changing.{told_more, told_same, told_with, version_high, version_low, latest_low, recipe_same, recipe_no_floor, recipe_no_table, recipe_no_payload, next_unneeded}
+use Rattle.vault_traits.proofs.Maps.{get_other, get_is, written_or_other}
+use Rattle.state_laws.proofs.Standing.{keeps_container, needs_recipe}
+use Rattle.state_laws.proofs.Changing.{told_more, told_same, told_with, version_high, latest_low, recipe_same, recipe_no_floor, recipe_no_table, recipe_no_payload, next_unneeded}
 
 floors_pos : (ds : List Dataset) (s : ℕ) → AllByRecursion IsDataset ds → 1 ≤ (slice_index_or ds s empty_dataset).floor
 floors_pos [] s h = omega arith

@@ -1,21 +1,20 @@
 -- Writes that a state and a core don't see.
-use Rattle.std.proofs.Common.{◌≡◌, ◌≢◌, ◌⊎◌, inl, inr, ⊎_elim, ℕ, ◌<◌, ◌≤◌, ◌+◌, length, List, [], ◌∷◌, ◌++◌, Option, Some, None, refl, sym, ◌∙◌, ap, subst, arith}
-use Rattle.std.specs.Prelude.{Result, Ok, Err, OnOk, Contains, IsSome, IfSome, IsSomeAnd}
+use Rattle.std.proofs.Common.{◌≡◌, ◌≢◌, ◌⊎◌, inl, inr, ⊎_elim, ℕ, ◌<◌, length, List, [], ◌∷◌, ◌++◌, Option, Some, None, refl, sym, ◌∙◌, ap, subst, arith}
+use Rattle.std.specs.Prelude.{Result, Ok, Err, OnOk, Contains, IsSome, IfSome}
 use Rattle.std.proofs.lemmas.List.Elements.{Contains-append_left, Contains-append_right, Contains-append_cases, Contains-push_cases}
 use Rattle.std.specs.FinMap as fin
 use Rattle.vault_types.specs.declared.Name.{Name}
-use Rattle.vault_types.specs.declared.Kind.{Kind}
 use Rattle.vault_types.specs.Tables.{Container}
-use Rattle.vault_types.specs.State.{State, KeptVersion, latest_of, floor_of, version_of}
-use Rattle.vault_types.specs.Shelf.{Blobs, with_blob, blob_at, table_name, payload_name, recipe_name, floor_name, HasContainer, IsFloorBlob, IsRecipeBlob, Stands}
-use Rattle.vault_types.specs.Events.{Core, Change, Job, Pin, put_by, put_in, pinned_containers, IsContainerName, IsRecipeName, IsFloorName, IsNeeded, Held, HasChange, IsNear}
+use Rattle.vault_types.specs.State.{State, KeptVersion, floor_of, version_of}
+use Rattle.vault_types.specs.Shelf.{Blobs, with_blob, table_name, payload_name, recipe_name, floor_name, HasContainer, IsFloorBlob, IsRecipeBlob, Stands}
+use Rattle.vault_types.specs.Events.{Core, Change, Job, put_by, put_in, pinned_containers, IsContainerName, IsNeeded, Held, IsNear}
 use Rattle.vault_traits.specs.Crash.{History, LeavesNowIfTold, LeavesOnlyIfTold}
-use Rattle.vault_traits.specs.Shelf.{blobs_with, history_with, IsWritten, MayBeWritten}
-use Rattle.vault_traits.proofs.Maps.{get_other, get_is, is_or_not, written_or_other, with_blob_comm}
+use Rattle.vault_traits.specs.Shelf.{blobs_with, history_with, MayBeWritten}
+use Rattle.vault_traits.proofs.Maps.{get_other, get_is, written_or_other, with_blob_comm}
 use Rattle.vault_traits.proofs.Moments.{may_write, writes, then, ends}
 use Rattle.vault_types.specs.Blobs.{table_bytes}
 use Rattle.vault_traits.specs.Writes.{AreWritten, MayBeWrittenInTurn}
-use Rattle.state_laws.specs.Parts.{IsNoLater, IsFree, IsIdle, IsSpare, HeldIfTold, with_strays}
+use Rattle.state_laws.specs.Parts.{IsFree, IsIdle, IsSpare, HeldIfTold, with_strays}
 
 -- what a state needs
 

@@ -2,7 +2,7 @@
 use Rattle.std.proofs.Common.{◌≡◌, zero, suc, ◌+◌, Bool, true, false, ◌||◌, List, [], ◌∷◌, ◌++◌, length, All, sym, refl, ap, ◌∙◌, subst, arith, length-append}
 use Rattle.std.specs.List.{list_any}
 use Rattle.std.proofs.lemmas.List.Folds.{list_any-append}
-use Rattle.stop_word.specs.Holders.{Held, IsWhole}
+use Rattle.stop_word.specs.Holders.{HolderState, AreAllHolders}
 
 module _ {X : Type 0} (P : X → Type 0) where
   cons : (y : X) (ys : List X) → P y → All P ys → All P (y ∷ ys)
@@ -14,9 +14,9 @@ module _ {X : Type 0} (P : X → Type 0) where
   init (y ∷ ys) x all = let r = init ys x (λ k d h. all (suc k) d (omega arith)) in (cons y ys (all 0 y (omega arith)) r.0, r.1)
 
 -- where all are of one family, and as many as it has, so are those before the last
-pub before_last : (xs ys : List Held) (x : Held) → IsWhole xs → xs ≡ ys ++ x ∷ [] → (1 + length ys ≡ x.family.count) × All (λ h. h.family ≡ x.family) ys
+pub before_last : (xs ys : List HolderState) (x : HolderState) → AreAllHolders xs → xs ≡ ys ++ x ∷ [] → (1 + length ys ≡ x.family.count) × All (λ h. h.family ≡ x.family) ys
 before_last [] ys x w e = absurd w
-before_last (h ∷ hs) ys x w e = let r = init (λ k. k.family ≡ h.family) ys x (subst (λ (l : List Held). All (λ k. k.family ≡ h.family) l) e w.1) in
+before_last (h ∷ hs) ys x w e = let r = init (λ k. k.family ≡ h.family) ys x (subst (λ (l : List HolderState). All (λ k. k.family ≡ h.family) l) e w.1) in
     let long : length (h ∷ hs) ≡ length ys + 1 = ap length e ∙ length-append ys (x ∷ []) in (
       omega (arith, long, w.0, ap (λ f. f.count) r.1),
       (λ k d b. r.0 k d b ∙ sym r.1),
@@ -33,7 +33,7 @@ or_three true b c = refl
 or_three false b c = or_swap b c
 
 -- the last is counted first
-pub any_last : (p : Held → Bool) (xs ys : List Held) (x : Held) (a : Bool) → xs ≡ ys ++ x ∷ [] → ((a || p x) || list_any p ys) ≡ (a || list_any p xs)
+pub any_last : (p : HolderState → Bool) (xs ys : List HolderState) (x : HolderState) (a : Bool) → xs ≡ ys ++ x ∷ [] → ((a || p x) || list_any p ys) ≡ (a || list_any p xs)
 any_last p xs ys x a e = or_three a (p x) (list_any p ys) ∙ ap (λ b. a || b) (sym (ap (list_any p) e ∙ list_any-append p ys (x ∷ []) ∙ ap (λ b. list_any p ys || b) (one (p x)))) where
   one : (b : Bool) → (b || false) ≡ b
   one true = refl

@@ -4,7 +4,7 @@
 
 ghost use Rattle.std.specs.Prelude.{◌≡◌, ◌≤◌, ◌+◌, ◌||◌, true, false, IfOk};
 ghost use Rattle.std.specs.List.{list_any};
-ghost use Rattle.stop_word.specs.Holders.{Family, fresh, IsWhole};
+ghost use Rattle.stop_word.specs.Holders.{Family, fresh, AreAllHolders};
 
 mod rule;
 
@@ -28,13 +28,21 @@ pub struct Holder {
 impl Model for Holder {
     ghost use Rattle.std.specs.Prelude.{◌≡◌, []};
     ghost use Rattle.std.specs.Arc.{arc_value};
-    ghost use Rattle.stop_word.specs.Holders.{Held};
+    ghost use Rattle.stop_word.specs.Holders.{HolderState};
 
-    ghost Value = { Held };
+    ghost Value = { HolderState };
 
-    ghost view = { λ h. record { family = record { word = h.seat.table_id; count = (arc_value h.board).shared.key }; number = h.number; raised = h.seat.me.0.raised; saw = h.seat.me.0.saw } };
+    ghost view = { λ h.
+        record {
+          family = record { word = h.seat.table_id; count = (arc_value h.board).shared.key };
+          number = h.number;
+          raised = h.seat.me.0.raised;
+          saw = h.seat.me.0.saw;
+        } };
 
-    ghost invariant = { λ h. (h.seat.table_id ≡ (arc_value h.board).shared.table_id) × ((arc_value h.board).shared.table_id.words ≡ 1) × (h.seat.me.1 ≡ []) × (h.seat.me.0.parts ≡ 1) × (h.seat.me.0.raised ≡ h.raised) };
+    ghost invariant = { λ h. (h.seat.table_id ≡ (arc_value h.board).shared.table_id)
+        × ((arc_value h.board).shared.table_id.words ≡ 1) × (h.seat.me.1 ≡ []) × (h.seat.me.0.parts ≡ 1)
+        × (h.seat.me.0.raised ≡ h.raised) };
 }
 
 impl Holder {
@@ -113,14 +121,22 @@ impl Model for Pile {
 
     ghost Value = { Gathered };
 
-    ghost view = { λ h. record { family = record { word = h.seat.table_id; count = (arc_value h.board).shared.key }; parts = h.seat.me.0.parts; raised = h.seat.me.0.raised; saw = h.seat.me.0.saw } };
+    ghost view = { λ h.
+        record {
+          family = record { word = h.seat.table_id; count = (arc_value h.board).shared.key };
+          parts = h.seat.me.0.parts;
+          raised = h.seat.me.0.raised;
+          saw = h.seat.me.0.saw;
+        } };
 
-    ghost invariant = { λ h. (h.seat.table_id ≡ (arc_value h.board).shared.table_id) × ((arc_value h.board).shared.table_id.words ≡ 1) × (h.seat.me.1 ≡ []) × (0 < h.seat.me.0.parts) };
+    ghost invariant = { λ h. (h.seat.table_id ≡ (arc_value h.board).shared.table_id)
+        × ((arc_value h.board).shared.table_id.words ≡ 1) × (h.seat.me.1 ≡ []) × (0 < h.seat.me.0.parts) };
 }
 
 impl Pile {
     fn of(holder: Holder) -> Pile
-        ensures { result ≡ record { family = holder.family; parts = 1; raised = holder.raised; saw = holder.saw } }
+        ensures { result
+            ≡ record { family = holder.family; parts = 1; raised = holder.raised; saw = holder.saw } }
     {
         let Holder { board, seat, .. } = holder;
         Pile { board, seat }
@@ -128,7 +144,13 @@ impl Pile {
 
     fn add(&mut self, holder: Holder)
         requires { holder.family ≡ self.old.family }
-        ensures { self.new ≡ record { family = self.old.family; parts = self.old.parts + 1; raised = self.old.raised || holder.raised; saw = self.old.saw || holder.saw } }
+        ensures { self.new
+            ≡ record {
+              family = self.old.family;
+              parts = self.old.parts + 1;
+              raised = self.old.raised || holder.raised;
+              saw = self.old.saw || holder.saw;
+            } }
     {
         let Holder { seat, .. } = holder;
         self.board.shared.join_seat::<Seats>(&mut self.seat, seat);
@@ -146,7 +168,7 @@ impl Pile {
 /// Whether the word was raised, by one of its holders, who are all back, in any order. A holder that ever saw the word
 /// raised shows that one has raised it. No memory: keep the list that `holders` gave, and its room, for the way back.
 pub fn gather(mut all: Vec<Holder>) -> bool
-    requires { IsWhole all.items }
+    requires { AreAllHolders all.items }
     ensures raised { result ≡ list_any (λ h. h.raised) all.items }
     ensures seen { list_any (λ h. h.saw) all.items ≡ true → result ≡ true }
 {

@@ -1,6 +1,6 @@
 //! The rule of a stop word, and what each of its steps tells.
 ghost use Rattle.std.specs.Prelude.{◌≡◌, ◌+◌, ◌-◌, true, false, ◌||◌, ◌==◌};
-ghost use Rattle.stop_word.specs.Word.{IsKept, seen_as};
+ghost use Rattle.stop_word.specs.Word.{IsConsistent, seen_as};
 
 use atomic_table::{Join, Play, Split, Table, TableRule};
 use std::alloc::Global;
@@ -16,7 +16,7 @@ pub struct View {
 pub struct Rule;
 
 impl TableRule<(), View, u32> for Rule {
-    ghost holds = { λ count s. IsKept count s };
+    ghost holds = { λ count s. IsConsistent count s };
 
     ghost first = { λ count. seen_as count false false };
 }
@@ -45,14 +45,16 @@ impl Play<(), View> for Raises {
 pub struct Looks;
 
 impl Play<(), View> for Looks {
-    ghost then = { λ step me n after. (after ≡ (seen_as me.0.parts me.0.raised (me.0.saw || (n == 1)), me.1)) × (me.0.raised || me.0.saw ≡ true → n ≡ 1) };
+    ghost then = { λ step me n after. (after ≡ (seen_as me.0.parts me.0.raised (me.0.saw || (n == 1)), me.1))
+        × (me.0.raised || me.0.saw ≡ true → n ≡ 1) };
 }
 
 // A look by one that has every part.
 pub struct Knows;
 
 impl Play<(), View> for Knows {
-    ghost then = { λ step me n after. (after.0 ≡ me.0) × ((n == 1) ≡ me.0.raised) × (me.0.saw ≡ true → n ≡ 1) };
+    ghost then = { λ step me n after. (after.0 ≡ me.0) × ((n == 1) ≡ me.0.raised)
+        × (me.0.saw ≡ true → n ≡ 1) };
 }
 
 pub type Board = Table<(), View, u32, Rule, Global>;

@@ -37,10 +37,18 @@ may_be_wrong kind.Payload (why.Length want found) = not (want == found)
 may_be_wrong kind.Payload (why.Sum want found) = not (same_fp want found)
 may_be_wrong kind other = false
 
+-- whether a recipe that is only read may be refused for this
+abbrev pub may_be_unreadable : Why → Bool
+may_be_unreadable why.Absent = true
+may_be_unreadable why.Spelling = true
+may_be_unreadable other = false
+
 -- whether another fault may refuse the line in some state: only the state says which payloads a restore names
 abbrev pub may_ever_refuse : Limits → Line → Fault → Bool
-may_ever_refuse limits (Restore s v name cache) (fault.Damaged kind.Payload number why) = may_be_wrong kind.Payload why
-may_ever_refuse limits (Restore s v name cache) (fault.Damaged kind.Recipe number why) = (number == s * 2 ^ 32 + v) && may_be_wrong kind.Recipe why
+may_ever_refuse limits (Restore s v name cache) (fault.Damaged kind.Payload number why) =
+    may_be_wrong kind.Payload why
+may_ever_refuse limits (Restore s v name cache) (fault.Damaged kind.Recipe number why) =
+    (number == s * 2 ^ 32 + v) && may_be_wrong kind.Recipe why
 may_ever_refuse limits line f = may_refuse limits (empty_state 0) line f
 
 -- whether an answer is one for lines of this kind
@@ -56,7 +64,8 @@ abbrev pub AreFitting : Limits → List Line → List Answer → Type 0
 AreFitting limits [] [] = Unit {0}
 AreFitting limits [] (answer ∷ answers) = ⊥
 AreFitting limits (line ∷ lines) [] = ⊥
-AreFitting limits (line ∷ lines) (answer ∷ answers) = IsTrue (fits limits line answer) × AreFitting limits lines answers
+AreFitting limits (line ∷ lines) (answer ∷ answers) =
+    IsTrue (fits limits line answer) × AreFitting limits lines answers
 
 -- the numbers that faults carry
 
@@ -85,7 +94,13 @@ pub record Counts : Type 0 where
 
 -- of a script over places
 abbrev pub counts_over : ShelfTold → PlacesTold → Counts
-counts_over shelf places = record { store = shelf.faults; place = places.faults; read = places.read_faults; write = places.write_faults }
+counts_over shelf places =
+    record {
+      store = shelf.faults;
+      place = places.faults;
+      read = places.read_faults;
+      write = places.write_faults;
+    }
 
 -- of a single call over a source, over a sink, or over the shelf alone
 abbrev pub counts_of_source : ShelfTold → SourceTold → Counts
@@ -97,7 +112,8 @@ counts_of_sink shelf out = record { store = shelf.faults; place = 0; read = 0; w
 abbrev pub counts_of_shelf : ShelfTold → Counts
 counts_of_shelf shelf = record { store = shelf.faults; place = 0; read = 0; write = 0 }
 
--- each number lies above the count at the start and not above the count at the end, and they rise from answer to answer
+-- each number lies above the count at the start and not above the count at the end, and they rise
+-- from answer to answer
 pub record CausesRise (old new : Counts) (answers : List Answer) : Type 0 where
   pub store : RiseFrom old.store (filter_map store_number answers) new.store
   pub place : RiseFrom old.place (filter_map place_number answers) new.place
@@ -112,11 +128,12 @@ RiseInSomeOrder before ns now = (ms : List ℕ) × IsPermutation ns ms × RiseFr
 abbrev pub answers_of_changes : List Line → List Answer → List Answer
 answers_of_changes [] answers = []
 answers_of_changes (line ∷ lines) [] = []
-answers_of_changes (Backup s name config ∷ lines) (answer ∷ answers) = answer ∷ answers_of_changes lines answers
+answers_of_changes (Backup s name config ∷ lines) (answer ∷ answers) =
+    answer ∷ answers_of_changes lines answers
 answers_of_changes (Restore s v name cache ∷ lines) (answer ∷ answers) = answers_of_changes lines answers
 answers_of_changes (Delete s n ∷ lines) (answer ∷ answers) = answer ∷ answers_of_changes lines answers
 
-pub record HasCauses (old new : Counts) (lines : List Line) (answers : List Answer) : Type 0 where
+pub record AnswersHaveCauses (old new : Counts) (lines : List Line) (answers : List Answer) : Type 0 where
   pub store : RiseInSomeOrder old.store (filter_map store_number answers) new.store
   pub place : RiseInSomeOrder old.place (filter_map place_number answers) new.place
   pub read : RiseInSomeOrder old.read (filter_map read_number answers) new.read

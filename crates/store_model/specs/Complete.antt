@@ -22,7 +22,8 @@ chunks_of_line sources (Backup s name config) = cuts (sources name) config.cutti
 chunks_of_line sources (Restore s v name cache) = []
 chunks_of_line sources (Delete s n) = []
 
--- the state is sound, no two chunks of it and of the sources clash, and no source has more chunks than the limit
+-- the state is sound, no two chunks of it and of the sources clash, and no source has more chunks
+-- than the limit
 pub record IsWell (limits : Limits) (sources : Sources) (S : State) (lines : List Line) : Type 0 where
   pub sound : IsSound S
   pub no_clash : NoClash (all_chunks S ++ flat_map (chunks_of_line sources) lines)
@@ -52,7 +53,8 @@ abbrev pub AreWellAnswered : Limits → Sources → State → List Line → List
 AreWellAnswered limits sources S [] answers = Unit {0}
 AreWellAnswered limits sources S (line ∷ lines) [] = Unit {0}
 AreWellAnswered limits sources S (line ∷ lines) (answer ∷ answers) =
-    IsWellAnswered limits sources S line answer × AreWellAnswered limits sources (after sources S line answer) lines answers
+    IsWellAnswered limits sources S line answer
+    × AreWellAnswered limits sources (after sources S line answer) lines answers
 
 -- a count that stands at the last value bounds nothing
 pub record AreBelowLast (c : Counts) : Type 0 where
@@ -61,8 +63,13 @@ pub record AreBelowLast (c : Counts) : Type 0 where
   pub read : c.read < 2 ^ 64 - 1
   pub write : c.write < 2 ^ 64 - 1
 
--- each line is well answered, at most as many as the counts rose by have a counted fault, and the last state is sound
-pub record IsComplete (limits : Limits) (sources : Sources) (S : State) (lines : List Line) (answers : List Answer) (old new : Counts) : Type 0 where
+-- each line is well answered, at most as many as the counts rose by have a counted fault, and the
+-- last state is sound
+pub record IsComplete (limits : Limits) (sources : Sources) (S : State) (lines : List Line)
+    (answers : List Answer) (old new : Counts) : Type 0 where
   pub each : AreWellAnswered limits sources S lines answers
   pub sound : IsSound (state_after sources S lines answers)
-  pub few : AreBelowLast new → count_by is_counted answers ≤ (new.store - old.store) + (new.place - old.place) + (new.read - old.read) + (new.write - old.write)
+  pub few : AreBelowLast new
+      → count_by is_counted answers
+      ≤ (new.store - old.store) + (new.place - old.place) + (new.read - old.read)
+      + (new.write - old.write)

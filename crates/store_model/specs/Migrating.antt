@@ -21,7 +21,7 @@ use Rattle.vault_traits.specs.Crash.{History, LeavesNowIfTold, LeavesOnlyIfTold}
 use Rattle.vault_traits.specs.Told.{ShelfTold}
 use Rattle.vault_types.specs.RecipeForms.{IsSecond}
 use Rattle.store_model.specs.Calls.{Keeping}
-use Rattle.store_model.specs.Causes.{CausesRise, counts_of_shelf}
+use Rattle.store_model.specs.Causes.{CausesRise, may_be_wrong, counts_of_shelf}
 use Rattle.store_model.specs.Complete.{is_counted}
 use Rattle.store_model.specs.Leaves.{Begins}
 use Rattle.store_model.specs.Steps.{answer_of}
@@ -37,31 +37,36 @@ versions_from s floor (suc n) = versions_from s floor n ++ (s, floor + n) ∷ []
 -- the kept versions of the sets below one, by set and number
 abbrev pub versions_below : State → ℕ → List (ℕ × ℕ)
 versions_below S zero = []
-versions_below S (suc s) = versions_below S s ++ versions_from s (floor_of S s) (length (dataset S s).versions)
+versions_below S (suc s) =
+    versions_below S s ++ versions_from s (floor_of S s) (length (dataset S s).versions)
 
 abbrev pub kept_versions : State → List (ℕ × ℕ)
 kept_versions S = versions_below S (length S.datasets)
 
 -- the recipe of the version is spelled in the first format
-abbrev pub IsFirst : Option Blobs → ℕ → ℕ → KeptVersion → Type 0
-IsFirst told s v k = blob_at told (recipe_name s v) ≡ Some (recipe_bytes_1 (recipe_of s v k))
+abbrev pub IsInFirstFormat : Option Blobs → ℕ → ℕ → KeptVersion → Type 0
+IsInFirstFormat told s v k = blob_at told (recipe_name s v) ≡ Some (recipe_bytes_1 (recipe_of s v k))
 
--- a version whose recipe is in the first format, and how many loads a restore of it with 16 slots can do with at least
+-- a version whose recipe is in the first format, and how many loads a restore of it with 16 slots
+-- can do with at least
 pub record IsOneFirst (told : Option Blobs) (S : State) (s v least : ℕ) : Type 0 where
   pub version : KeptVersion
   pub kept : version_of S s v ≡ Some version
-  pub first : IsFirst told s v version
+  pub first : IsInFirstFormat told s v version
   pub loads : IsLeast (requests (row_ids S s v)) 16 least
 
--- of these versions so many have their recipes in the first format, and their restores can do with so many loads in all
+-- of these versions so many have their recipes in the first format, and their restores can do with
+-- so many loads in all
 abbrev pub HaveFirst : Option Blobs → State → List (ℕ × ℕ) → ℕ → ℕ → Type 0
 HaveFirst told S [] n loads = (n ≡ 0) × (loads ≡ 0)
 HaveFirst told S (p ∷ ps) n loads =
-    (((k : KeptVersion) × (version_of S p.0 p.1 ≡ Some k) × IsSecond told p.0 p.1 k) × HaveFirst told S ps n loads)
-    ⊎ ((m least others : ℕ) × IsOneFirst told S p.0 p.1 least × HaveFirst told S ps m others × (n ≡ m + 1) × (loads ≡ least + others))
+    (((k : KeptVersion) × (version_of S p.0 p.1 ≡ Some k) × IsSecond told p.0 p.1 k)
+    × HaveFirst told S ps n loads)
+    ⊎ ((m least others : ℕ) × IsOneFirst told S p.0 p.1 least × HaveFirst told S ps m others × (n ≡ m + 1)
+    × (loads ≡ least + others))
 
--- how many payloads are got: as many as restores of those versions can do with, and then the answer tells how many versions
--- these are; or at most so many where it is refused
+-- how many payloads are got: as many as restores of those versions can do with, and then the answer
+-- tells how many versions these are; or at most so many where it is refused
 abbrev pub GetsOf : Option Blobs → State → Answer → ℕ → Type 0
 GetsOf told S (Migrated recipes) n = HaveFirst told S (kept_versions S) recipes n
 GetsOf told S answer n = (recipes least : ℕ) → HaveFirst told S (kept_versions S) recipes least → n ≤ least
@@ -70,39 +75,47 @@ GetsOf told S answer n = (recipes least : ℕ) → HaveFirst told S (kept_versio
 abbrev pub fits_migrate : Answer → Bool
 fits_migrate (Migrated recipes) = true
 fits_migrate (Refused (fault.StoreFault n)) = true
-fits_migrate (Refused (fault.Damaged kind.Recipe number why)) = true
-fits_migrate (Refused (fault.Damaged kind.Payload number why)) = true
+fits_migrate (Refused (fault.Damaged kind.Recipe number why)) = may_be_wrong kind.Recipe why
+fits_migrate (Refused (fault.Damaged kind.Payload number why)) = may_be_wrong kind.Payload why
 fits_migrate (Refused fault.Memory) = true
 fits_migrate other = false
 
 -- a recipe of a kept version or a payload that its rows name is damaged, and in this way
 abbrev pub IsDamageOfKept : State → Kind → ℕ → Why → Type 0
-IsDamageOfKept S k number why = (s v : ℕ) × (j : KeptVersion) × (version_of S s v ≡ Some j) × IsTrue (is_damage_of S s v k number) × IsDamage S s v k number why
+IsDamageOfKept S k number why =
+    (s v : ℕ) × (j : KeptVersion) × (version_of S s v ≡ Some j) × IsTrue (is_damage_of S s v k number)
+    × IsDamage S s v k number why
 
-abbrev pub ShowsDamage : State → Answer → Type 0
-ShowsDamage S (Refused (fault.Damaged k number why)) = IsDamageOfKept S k number why
-ShowsDamage S answer = Unit {0}
+abbrev pub ShowsKeptDamage : State → Answer → Type 0
+ShowsKeptDamage S (Refused (fault.Damaged k number why)) = IsDamageOfKept S k number why
+ShowsKeptDamage S answer = Unit {0}
 
 -- each kept recipe is as it was, or in the second format; where it was done each is in that
 pub record AreForms (S : State) (answer : Answer) (old new : Option Blobs) : Type 0 where
-  pub each : (s v : ℕ) (k : KeptVersion) → s < length S.datasets → version_of S s v ≡ Some k → (blob_at new (recipe_name s v) ≡ blob_at old (recipe_name s v)) ⊎ IsSecond new s v k
-  pub done : is_refused answer ≡ false → (s v : ℕ) (k : KeptVersion) → s < length S.datasets → version_of S s v ≡ Some k → IsSecond new s v k
+  pub each : (s v : ℕ) (k : KeptVersion) → s < length S.datasets → version_of S s v ≡ Some k
+      → (blob_at new (recipe_name s v) ≡ blob_at old (recipe_name s v)) ⊎ IsSecond new s v k
+  pub done : is_refused answer ≡ false → (s v : ℕ) (k : KeptVersion) → s < length S.datasets
+      → version_of S s v ≡ Some k → IsSecond new s v k
 
--- what is answered and left in the state: it stays. Over a sound one it is done, or there was no memory, or a fault was
--- counted
+-- what is answered and left in the state: it stays. Over a sound one it is done, or there was no
+-- memory, or a fault was counted
 pub record MigratesIn (S : State) (answer : Answer) (old new : ShelfTold) : Type 0 where
   pub forms : AreForms S answer old.blobs new.blobs
   pub gets : (n : ℕ) × (new.gets ≡ counted_up old.gets n) × GetsOf old.blobs S answer n
-  pub damage : ShowsDamage S answer
-  pub complete : IsSound S → (is_refused answer ≡ false) ⊎ ((answer ≡ Refused fault.Memory) ⊎ IsTrue (is_counted answer))
+  pub damage : ShowsKeptDamage S answer
+  pub complete : IsSound S
+      → (is_refused answer ≡ false) ⊎ ((answer ≡ Refused fault.Memory) ⊎ IsTrue (is_counted answer))
 
--- a crash at any moment leaves what it could leave before; and one behind a migration that was done what there is then
-pub record BearsMigration (S : State) (other next : Option Change) (answer : Answer) (old new : Option History) : Type 0 where
+-- a crash at any moment leaves what it could leave before; and one behind a migration that was done
+-- what there is then
+pub record BearsMigration (S : State) (other next : Option Change) (answer : Answer)
+    (old new : Option History) : Type 0 where
   pub any_moment : LeavesOnlyIfTold old new (IsNear S other)
   pub behind : is_refused answer ≡ false → LeavesNowIfTold new (IsNear S next)
 
 -- what the call of a store ensures, where what it keeps is given, and the names that it knows as strays
-pub record MigratesStore (before behind : Keeping) (Known Behind : Name → Type 0) (old new : ShelfTold) (result : Result Answer Fault) : Type 0 where
+pub record MigratesStore (before behind : Keeping) (Known Behind : Name → Type 0) (old new : ShelfTold)
+    (result : Result Answer Fault) : Type 0 where
   pub done : IfOk result (λ a. is_refused a ≡ false)
   pub kind : IsTrue (fits_migrate (answer_of result))
   pub causes : CausesRise (counts_of_shelf old) (counts_of_shelf new) (answer_of result ∷ [])
@@ -110,14 +123,16 @@ pub record MigratesStore (before behind : Keeping) (Known Behind : Name → Type
       → (next : Option Change) × behind S next × ((next ≡ None) ⊎ (next ≡ other))
       × MigratesIn S (answer_of result) old new
       × ((n : Name) → Behind n → Known n)
-      × (LeavesNowIfTold old.history (IsNear S other) → BearsMigration S other next (answer_of result) old.history new.history)
+      × (LeavesNowIfTold old.history (IsNear S other)
+      → BearsMigration S other next (answer_of result) old.history new.history)
 
--- what a migration leaves of a shelf that begins with the state: its blobs stand for it still, no name has become a stray,
--- and a crash at any moment leaves only what stands for it
+-- what a migration leaves of a shelf that begins with the state: its blobs stand for it still, no
+-- name has become a stray, and a crash at any moment leaves only what stands for it
 pub record StaysAsIs (S : State) (old new : ShelfTold) : Type 0 where
   pub blobs : IsSomeAnd new.blobs (λ m. Stands m S)
   pub strays : (n : Name) → StraysOf new S n → StraysOf old S n
-  pub crash : LeavesNowIfTold old.history (λ m. Stands m S) → LeavesOnlyIfTold old.history new.history (λ m. Stands m S)
+  pub crash : LeavesNowIfTold old.history (λ m. Stands m S)
+      → LeavesOnlyIfTold old.history new.history (λ m. Stands m S)
 
 -- `migrate`; the report is on `out`
 pub record RunsMigrate (before now : World) (answers : List Answer) (f : Option Fault) : Type 0 where

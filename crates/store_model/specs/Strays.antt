@@ -1,5 +1,5 @@
--- The strays at the end of a run of lines. What a keeper knows as strays are names, each with a blob or not; each stray of
--- its blobs is among them.
+-- The strays at the end of a run of lines. What a keeper knows as strays are names, each with a
+-- blob or not; each stray of its blobs is among them.
 use Rattle.std.specs.Prelude.{◌≡◌, ◌⊎◌, ◌≤◌, ◌<◌, ◌+◌, ◌-◌, ◌*◌, ◌^◌, ℕ, List, [], ◌∷◌, length, Contains, IsSome, IfSome, MatchBool}
 use Rattle.std.specs.FinMap as fin
 use Rattle.vault_types.specs.declared.Limits.{Limits}
@@ -25,13 +25,16 @@ StraysOf shelf S name = IfSome shelf.blobs (λ m. IsStray S m name)
 -- the name is that of a container that a refused backup may have numbered
 abbrev pub IsNumberedBy : Limits → State → Line → Name → Type 0
 IsNumberedBy limits S (Backup s name config) n =
-    (id : ℕ) × (next_of S ≤ id) × (id < next_of S + limits.chunks) × ((n ≡ table_name id) ⊎ (n ≡ payload_name id))
+    (id : ℕ) × (next_of S ≤ id) × (id < next_of S + limits.chunks)
+    × ((n ≡ table_name id) ⊎ (n ≡ payload_name id))
 IsNumberedBy limits S (Restore s v name cache) n = ⊥
 IsNumberedBy limits S (Delete s through) n = ⊥
 
--- what may be a stray behind a line, besides the names whose removal or put failed: nothing behind a deletion that was done
+-- what may be a stray behind a line, besides the names whose removal or put failed: nothing behind
+-- a deletion that was done
 abbrev pub MayStayBehind : Limits → State → Line → Answer → (Name → Type 0) → Name → Type 0
-MayStayBehind limits S (Backup s name config) answer Known n = MatchBool (is_refused answer) (Known n ⊎ IsNumberedBy limits S (Backup s name config) n) (Known n)
+MayStayBehind limits S (Backup s name config) answer Known n =
+    MatchBool (is_refused answer) (Known n ⊎ IsNumberedBy limits S (Backup s name config) n) (Known n)
 MayStayBehind limits S (Restore s v name cache) answer Known n = Known n
 MayStayBehind limits S (Delete s through) answer Known n = MatchBool (is_refused answer) (Known n) ⊥
 
@@ -39,11 +42,13 @@ abbrev pub MayStay : Limits → Sources → State → List Line → List Answer 
 MayStay limits sources S [] answers Known n = Known n
 MayStay limits sources S (line ∷ lines) [] Known n = Known n
 MayStay limits sources S (line ∷ lines) (answer ∷ answers) Known n =
-    MayStay limits sources (after sources S line answer) lines answers (MayStayBehind limits S line answer Known) n
+    MayStay limits sources (after sources S line answer) lines answers
+    (MayStayBehind limits S line answer Known) n
 
--- where the first ones were known before the lines, each of those behind them is one that may stay, or one of two for each
--- unit that the count of faults rose by
-pub record StraysAreKnown (limits : Limits) (sources : Sources) (S : State) (lines : List Line) (answers : List Answer) (Known Behind : Name → Type 0) (old new : ShelfTold) : Type 0 where
+-- where the first ones were known before the lines, each of those behind them is one that may stay,
+-- or one of two for each unit that the count of faults rose by
+pub record StraysAreKnown (limits : Limits) (sources : Sources) (S : State) (lines : List Line)
+    (answers : List Answer) (Known Behind : Name → Type 0) (old new : ShelfTold) : Type 0 where
   pub later : old.faults ≤ new.faults
   pub others : List Name
   pub few : new.faults < 2 ^ 64 - 1 → length others ≤ 2 * (new.faults - old.faults)

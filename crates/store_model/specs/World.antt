@@ -17,6 +17,10 @@ pub record World : Type 0 where
   pub out : SinkTold
   pub report : SinkTold
 
+abbrev pub world : ShelfTold → PlacesTold → SourceTold → SinkTold → SinkTold → World
+world shelf places input out report =
+    record { shelf = shelf; places = places; input = input; out = out; report = report }
+
 -- the fault of the first refused answer
 abbrev pub first_fault : List Answer → Option Fault
 first_fault [] = None
@@ -38,8 +42,11 @@ TakesFront before now text = (front : List ℕ) × IsFrontOf front text × Takes
 abbrev pub IsPrinted : List ℕ → SinkTold → SinkTold → Option Fault → Type 0
 IsPrinted text before now None = Takes before.taken now.taken text
 IsPrinted text before now (Some f) =
-    (n : ℕ) × (f ≡ fault.WriteFault n) × RiseFrom before.faults (n ∷ []) now.faults × TakesFront before now text
+    (n : ℕ) × (f ≡ fault.WriteFault n) × RiseFrom before.faults (n ∷ []) now.faults
+    × TakesFront before now text
 
 -- the fault's line was written, or a front of it where the sink failed
 abbrev pub IsTold : Fault → SinkTold → SinkTold → Type 0
-IsTold f before now = Takes before.taken now.taken (fault_line f) ⊎ (Rose before.faults now.faults × TakesFront before now (fault_line f))
+IsTold f before now =
+    Takes before.taken now.taken (fault_line f)
+    ⊎ (Rose before.faults now.faults × TakesFront before now (fault_line f))

@@ -60,7 +60,9 @@ impl Cutter {
         out: &mut Vec<Vec<u8>>,
     ) -> Result<(), Memory>
         ensures cutting { OnOk result (self.new.cutting ≡ self.old.cutting) }
-        ensures chunks { OnOk result (map (λ c. c.items) out.new.items ≡ map (λ c. c.items) out.old.items ++ settled (self.old.held ++ piece.now) self.old.cutting) }
+        ensures chunks { OnOk result
+            (map (λ c. c.items) out.new.items
+            ≡ map (λ c. c.items) out.old.items ++ settled (self.old.held ++ piece.now) self.old.cutting) }
         ensures held { OnOk result (self.new.held ≡ unsettled (self.old.held ++ piece.now) self.old.cutting) }
     {
         match &mut self.way {
@@ -71,8 +73,10 @@ impl Cutter {
 
     /// Appends to `out` the bytes that are left, if there are any, as the last chunk of the stream.
     pub fn finish(self, out: &mut Vec<Vec<u8>>) -> Result<(), Memory>
-        ensures chunks { OnOk result (map (λ c. c.items) out.new.items ≡ map (λ c. c.items) out.old.items ++ only_bytes self.held) }
-        ensures stream { (gone : List (List ℕ)) (x : List ℕ) → HasCut self gone x → gone ++ only_bytes self.held ≡ cuts x self.cutting }
+        ensures chunks { OnOk result
+            (map (λ c. c.items) out.new.items ≡ map (λ c. c.items) out.old.items ++ only_bytes self.held) }
+        ensures stream { (gone : List (List ℕ)) (x : List ℕ) → HasCut self gone x
+            → gone ++ only_bytes self.held ≡ cuts x self.cutting }
     {
         match self.way {
             Way::Fixed(chunker) => chunker.finish(out),

@@ -10,6 +10,15 @@ use std::thread;
 use std::thread::{Promise, Threads};
 use vault_types::Memory;
 
+fn are_all(bytes: &[u8], value: u8) -> bool {
+    for byte in bytes {
+        if *byte != value {
+            return false;
+        }
+    }
+    true
+}
+
 #[derive(Drop)]
 struct Parcel {
     number: u32,
@@ -24,8 +33,7 @@ impl Parcel {
 
     fn is_whole(&self) -> bool {
         let value = (self.number % 251) as u8;
-        self.bytes.len() == (self.number % 3) as usize + 1
-            && self.bytes.iter().all(|byte| *byte == value)
+        self.bytes.len() == (self.number % 3) as usize + 1 && are_all(self.bytes.as_slice(), value)
     }
 }
 

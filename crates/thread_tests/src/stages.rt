@@ -66,6 +66,20 @@ fn stack(is_refused: bool) -> Stack {
     }
 }
 
+fn is_done(stage: &CarryStage) -> bool {
+    stage.over && stage.ready.is_none()
+}
+
+// How many of these are so.
+fn count_of(first: bool, second: bool, third: bool) -> u32 {
+    first as u32 + second as u32 + third as u32
+}
+
+// The number that is sent next, and none behind the last.
+fn item_of(sent: u32, count: u32) -> Option<u32> {
+    if sent < count { Some(sent) } else { None }
+}
+
 #[derive(Drop)]
 struct Row {
     near: Tx<Option<u32>>,
@@ -129,6 +143,11 @@ impl Row {
         together(first, together(second, third))
     }
 
+    // Sends the next number, and tells whether it went in.
+    fn send<R: Wait>(&mut self, rt: &R, sent: u32, count: u32) -> bool {
+        sent <= count && self.near.offer(rt, item_of(sent, count)).is_ok()
+    }
+
     // Sends the numbers 0 to `count - 1` and then `None`, and tells how many numbers came out, and whether all in order.
     fn carry<R: Wait + Clock>(&mut self, rt: &R, count: u32) -> (u32, bool) {
         let mut sent = 0u32;
@@ -137,12 +156,9 @@ impl Row {
         let mut back_off = BackOff::new();
         for _ in rt.forever() {
             let mut told = self.turn_rest(rt);
-            if sent <= count {
-                let item = if sent < count { Some(sent) } else { None };
-                if self.near.offer(rt, item).is_ok() {
-                    sent = sent.saturating_add(1);
-                    told = Turn::Moved;
-                }
+            if self.send(rt, sent, count) {
+                sent = sent.saturating_add(1);
+                told = Turn::Moved;
             }
             match self.far.take(rt) {
                 Some(Some(number)) => {
@@ -169,10 +185,11 @@ impl Row {
                 break;
             }
         }
-        let kept = [&self.first, &self.second, &self.third]
-            .iter()
-            .filter(|stage| stage.is_kept())
-            .count();
+        let kept = count_of(
+            self.first.is_kept(),
+            self.second.is_kept(),
+            self.third.is_kept(),
+        );
         let Row {
             near: _,
             first,
@@ -180,110 +197,152 @@ impl Row {
             third,
             far: _,
         } = self;
-        let first = first.end(rt);
-        let second = second.end(rt);
-        let third = third.end(rt);
-        let are_done = [&first, &second, &third]
-            .iter()
-            .all(|stage| stage.over && stage.ready.is_none());
-        (kept as u32, are_done)
+        let first = is_done(&first.end(rt));
+        let second = is_done(&second.end(rt));
+        let third = is_done(&third.end(rt));
+        (kept, first && second && third)
     }
 }
 
 // How many numbers came out, whether all in order, how many stages were kept, and whether each was done.
+type Carried = ((u32, bool), (u32, bool));
+
+fn carried_in<'s, E: 's, R: Threads + Wait + Clock + Copy + Drop + Send + 's>(
+    rt: R,
+    alloc: Global,
+    scope: &'s Scope<'s, E>,
+    capacity: u32,
+    count: u32,
+    refused: (bool, bool, bool),
+) -> Result<Carried, Memory>
+    requires { 1 ≤ capacity }
+{
+    let mut row = Row::start(rt, alloc, scope, capacity, refused)?;
+    let came = row.carry(&rt, count);
+    Ok((came, row.end(&rt)))
+}
+
 fn carried<R: Threads + Wait + Clock + Copy + Drop + Send>(
     rt: R,
     alloc: Global,
     capacity: u32,
     count: u32,
     refused: (bool, bool, bool),
-) -> Result<((u32, bool), (u32, bool)), Memory>
+) -> Result<Carried, Memory>
     requires { 1 ≤ capacity }
 {
     thread::scope(
         thread::scope_env(),
         &rt,
-        |scope| -> Result<((u32, bool), (u32, bool)), Memory>
+        |scope| -> Result<Carried, Memory>
             requires { 1 ≤ capacity }
-        {
-            let mut row = Row::start(rt, alloc, scope, capacity, refused)?;
-            let came = row.carry(&rt, count);
-            Ok((came, row.end(&rt)))
-        },
+        { carried_in(rt, alloc, scope, capacity, count, refused) },
     )
+}
+
+// Lines of one place and of 64, where all or none of the stages are refused their thread.
+fn through_lines<R: Threads + Wait + Clock + Copy + Drop + Send>(
+    rt: R,
+    alloc: Global,
+    refused: bool,
+) -> Result<[Carried; 2], Memory> {
+    let refused = (refused, refused, refused);
+    let one = carried(rt, alloc, 1, 20_000, refused)?;
+    let many = carried(rt, alloc, 64, 20_000, refused)?;
+    Ok([one, many])
 }
 
 #[test]
 fn three_stages_in_threads(rt: HostRuntime) -> Result<(), Fail> {
-    for capacity in [1, 64] {
-        assert!(rt;
-            carried(rt, rt.alloc(), capacity, 20_000, (false, false, false))?
-                == ((20_000, true), (0, true)),
-            "through {capacity} places"
-        );
-    }
+    assert!(rt; through_lines(rt, rt.alloc(), false)? == [((20_000, true), (0, true)); 2]);
     Ok(())
 }
 
 #[test]
 fn three_stages_without_threads(rt: HostRuntime) -> Result<(), Fail> {
-    for capacity in [1, 64] {
-        assert!(rt;
-            carried(rt, rt.alloc(), capacity, 20_000, (true, true, true))?
-                == ((20_000, true), (3, true)),
-            "through {capacity} places"
-        );
-    }
+    assert!(rt; through_lines(rt, rt.alloc(), true)? == [((20_000, true), (3, true)); 2]);
     Ok(())
+}
+
+// Which stages are refused their thread, and how many are kept then.
+const SOME: &[((bool, bool, bool), u32)] = &[
+    ((true, false, false), 1),
+    ((false, true, false), 1),
+    ((false, false, true), 1),
+    ((true, true, false), 2),
+    ((true, false, true), 2),
+    ((false, true, true), 2),
+];
+
+// Those of which something else came.
+fn first_other<R: Threads + Wait + Clock + Copy + Drop + Send>(
+    rt: R,
+    alloc: Global,
+    all: &[((bool, bool, bool), u32)],
+) -> Result<Option<(bool, bool, bool)>, Memory> {
+    for (refused, kept) in all {
+        if carried(rt, alloc, 2, 5_000, *refused)? != ((5_000, true), (*kept, true)) {
+            return Ok(Some(*refused));
+        }
+    }
+    Ok(None)
 }
 
 #[test]
 fn three_stages_with_some_threads(rt: HostRuntime) -> Result<(), Fail> {
-    for (first, second, third, kept) in [
-        (true, false, false, 1),
-        (false, true, false, 1),
-        (false, false, true, 1),
-        (true, true, false, 2),
-        (true, false, true, 2),
-        (false, true, true, 2),
-    ] {
-        assert!(rt;
-            carried(rt, rt.alloc(), 2, 5_000, (first, second, third))?
-                == ((5_000, true), (kept, true)),
-            "refused: {first} {second} {third}"
-        );
-    }
+    let other = first_other(rt, rt.alloc(), SOME)?;
+    assert!(rt; other == None, "refused: {other:?}");
     Ok(())
 }
 
+// Sends 7, 8 and the end.
+fn send_three<R: Wait>(rt: &R, near: &mut Tx<Option<u32>>) {
+    let _ = near.offer(rt, Some(7));
+    let _ = near.offer(rt, Some(8));
+    let _ = near.offer(rt, None);
+}
+
+// What four takes give.
+fn take_four<R: Wait>(
+    rt: &R,
+    alloc: Global,
+    far: &mut Rx<Option<u32>>,
+) -> Result<Vec<Option<u32>>, Memory> {
+    let mut came = Vec::new(alloc);
+    for _ in 0..4 {
+        if let Some(item) = far.take(rt) {
+            came.push(item)?;
+        }
+    }
+    Ok(came)
+}
+
 // A stage that is kept, and what it has to carry is in its line: what it left in the next line, by its own end.
+fn ended_in<'s, E: 's, R: Threads + Wait + Clock + Copy + Drop + Send + 's>(
+    rt: R,
+    alloc: Global,
+    scope: &'s Scope<'s, E>,
+) -> Result<(Vec<Option<u32>>, bool), Memory> {
+    let (_, mut near, from) = line(alloc, 4)?;
+    let (_, to, mut far) = line(alloc, 4)?;
+    let place = StageRoom::new(alloc)?;
+    let stage = CarryStage {
+        from,
+        to,
+        ready: None,
+        over: false,
+    };
+    let kept = StageThread::start_on(rt, place, scope, stage, stack(true));
+    send_three(&rt, &mut near);
+    let is_over = kept.end(&rt).over;
+    Ok((take_four(&rt, alloc, &mut far)?, is_over))
+}
+
 fn ended_alone<R: Threads + Wait + Clock + Copy + Drop + Send>(
     rt: R,
     alloc: Global,
 ) -> Result<(Vec<Option<u32>>, bool), Memory> {
-    thread::scope(thread::scope_env(), &rt, |scope| {
-        let (_, mut near, from) = line(alloc, 4)?;
-        let (_, to, mut far) = line(alloc, 4)?;
-        let place = StageRoom::new(alloc)?;
-        let stage = CarryStage {
-            from,
-            to,
-            ready: None,
-            over: false,
-        };
-        let kept = StageThread::start_on(rt, place, scope, stage, stack(true));
-        for item in [Some(7), Some(8), None] {
-            let _ = near.offer(&rt, item);
-        }
-        let stage = kept.end(&rt);
-        let mut came = Vec::new(alloc);
-        for _ in 0..4 {
-            if let Some(item) = far.take(&rt) {
-                came.push(item)?;
-            }
-        }
-        Ok((came, stage.over))
-    })
+    thread::scope(thread::scope_env(), &rt, |scope| ended_in(rt, alloc, scope))
 }
 
 #[test]

@@ -5,7 +5,7 @@ use Rattle.std.specs.declared.alloc.Global.{Global}
 use Rattle.std.specs.List.{concat}
 use Rattle.std.proofs.lemmas.List.{take-append-drop, drop-drop, length-drop, length-take-le}
 use Rattle.std.proofs.Math.Seq.{drop-cons, take-append_seam}
-use Rattle.vault_gates.specs.Streams.{next_of, before_pieces, once_given}
+use Rattle.vault_gates.specs.Streams.{first_piece, before_pieces, once_given}
 use Rattle.vault_gates.specs.Pieces.{pieces_left, AreStarted}
 
 abbrev Held : Type 0
@@ -44,15 +44,15 @@ still_given at given n ps p in_list is within =
 
 -- no more was given than the piece has
 pub given_within : (at given n : ℕ) (ps : Held) (p : Vec ℕ Global) → at < length ps → p ≡ get_or ps at p → AreStarted given (drop at ps)
-    → n ≤ length (next_of (pieces_left given (drop at ps))) → given + n ≤ length p.items
+    → n ≤ length (first_piece (pieces_left given (drop at ps))) → given + n ≤ length p.items
 given_within at given n ps p in_list is started few =
     let front : drop at ps ≡ p ∷ drop (suc at) ps = drop-cons ps at p in_list ∙ ap (λ (q : Vec ℕ Global). q ∷ drop (suc at) ps) (sym is) in
     let first : given < length p.items = (subst (AreStarted given) front started).0 in
-    let left : n ≤ length (drop given p.items) = subst (λ (l : Held). n ≤ length (next_of (pieces_left given l))) front few in
+    let left : n ≤ length (drop given p.items) = subst (λ (l : Held). n ≤ length (first_piece (pieces_left given l))) front few in
     omega (arith, length-drop given p.items)
 
 -- what is left before and after
-pub given_front : (n : ℕ) (pieces : List (List ℕ)) → concat pieces ≡ take n (next_of pieces) ++ concat (once_given n pieces)
+pub given_front : (n : ℕ) (pieces : List (List ℕ)) → concat pieces ≡ take n (first_piece pieces) ++ concat (once_given n pieces)
 given_front zero [] = refl
 given_front (suc n) [] = refl
 given_front n (p ∷ ps) =

@@ -2,8 +2,8 @@
 use Rattle.std.specs.Prelude.{Bool, Result, Ok, Err, false}
 use Rattle.vault_ports.specs.Places.{Placing}
 
--- the names and their bytes, for how many bytes a writer has room, and the counts of faults; whether the first writer is
--- still to be opened
+-- the names and their bytes, for how many bytes a writer has room, and the counts of faults;
+-- whether the first writer is still to be opened
 pub record GatedPlacing : Type 0 where
   pub places : Placing
   pub gated : Bool

@@ -1,8 +1,8 @@
 -- What is seen of sources and sinks with a gate.
 use Rattle.std.specs.Prelude.{ℕ, Bool, List, [], ◌∷◌, drop}
 
--- of a source: the pieces that are left; the number of the read that is guarded, how many reads there were, and how many
--- failed
+-- of a source: the pieces that are left; the number of the read that is guarded, how many reads
+-- there were, and how many failed
 pub record GatedGiving : Type 0 where
   pub pieces : List (List ℕ)
   pub nth : ℕ
@@ -10,9 +10,9 @@ pub record GatedGiving : Type 0 where
   pub faults : ℕ
 
 -- the next piece; where none is left, no bytes
-abbrev pub next_of : List (List ℕ) → List ℕ
-next_of [] = []
-next_of (piece ∷ pieces) = piece
+abbrev pub first_piece : List (List ℕ) → List ℕ
+first_piece [] = []
+first_piece (piece ∷ pieces) = piece
 
 -- the pieces with these bytes before them, where there are any
 abbrev pub before_pieces : List ℕ → List (List ℕ) → List (List ℕ)
@@ -24,8 +24,8 @@ abbrev pub once_given : ℕ → List (List ℕ) → List (List ℕ)
 once_given n [] = []
 once_given n (piece ∷ pieces) = before_pieces (drop n piece) pieces
 
--- of a sink: what it has taken, for how many bytes it has room in all, whether the first write is still to come and is
--- guarded, and how many writes failed
+-- of a sink: what it has taken, for how many bytes it has room in all, whether the first write is
+-- still to come and is guarded, and how many writes failed
 pub record GatedTaking : Type 0 where
   pub taken : List ℕ
   pub room : ℕ

@@ -1,6 +1,6 @@
 // Pieces of bytes that are given one after another.
 ghost use Rattle.std.specs.Prelude.{◌≡◌, ◌<◌, ◌≤◌, [], length, map, All};
-ghost use Rattle.vault_gates.specs.Streams.{next_of, once_given};
+ghost use Rattle.vault_gates.specs.Streams.{first_piece, once_given};
 
 use std::marker::Model;
 
@@ -37,7 +37,7 @@ impl Pieces {
 
     // The next piece, and no bytes where none is left.
     pub fn next(&self) -> &[u8]
-        ensures next { result.now ≡ next_of self.now }
+        ensures next { result.now ≡ first_piece self.now }
         ensures end { length result.now ≡ 0 → self.now ≡ [] }
     {
         if self.at < self.list.len() {
@@ -50,7 +50,7 @@ impl Pieces {
 
     // Goes on behind so many bytes of the next piece.
     pub fn advance(&mut self, n: usize)
-        requires { n ≤ length (next_of self.old) }
+        requires { n ≤ length (first_piece self.old) }
         ensures { self.new ≡ once_given n self.old }
     {
         if self.at < self.list.len() {

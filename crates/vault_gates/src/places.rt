@@ -30,7 +30,17 @@ impl Model for GatePlaces {
 
     ghost Value = { GatedPlacing };
 
-    ghost view = { λ p. record { places = record { files = p.inner.files; room = p.inner.room; faults = p.faults; read_faults = p.read_faults; write_faults = p.write_faults }; gated = is_some p.gate } };
+    ghost view = { λ p.
+        record {
+          places = record {
+            files = p.inner.files;
+            room = p.inner.room;
+            faults = p.faults;
+            read_faults = p.read_faults;
+            write_faults = p.write_faults;
+          };
+          gated = is_some p.gate;
+        } };
 }
 
 impl GatePlaces {
@@ -61,14 +71,21 @@ impl Places for GatePlaces {
 
     type Writer = GateSink;
 
-    ghost told = { λ p. record { files = Some (file_at p.places.files); faults = p.places.faults; read_faults = p.places.read_faults; write_faults = p.places.write_faults } };
+    ghost told = { λ p.
+        record {
+          files = Some (file_at p.places.files);
+          faults = p.places.faults;
+          read_faults = p.places.read_faults;
+          write_faults = p.places.write_faults;
+        } };
 
     ghost room = { None };
 
     fn open_source(&mut self, alloc: Global, name: &str) -> Result<MemSource, Refused>
         ensures reader { IfOk result (λ r. Some r.left ≡ file_at self.old.places.files name.now) }
         ensures piece { IfOk result (λ r. r.piece ≡ 2 ^ 64 - 1) }
-        ensures kept { self.new ≡ record self.old { places = record self.old.places { faults = self.new.places.faults } } }
+        ensures kept { self.new
+            ≡ record self.old { places = record self.old.places { faults = self.new.places.faults } } }
         ensures fails { IsErrOf result Refused.Failed ↔ (file_at self.old.places.files name.now ≡ None) }
         ensures counts { self.new.places.faults ≡ counted_if (is_failed result) self.old.places.faults }
     {
@@ -89,7 +106,9 @@ impl Places for GatePlaces {
     }
 
     fn open_sink(&mut self, alloc: Global, name: &str) -> Result<GateSink, Refused>
-        ensures writer { IfOk result (λ w. w ≡ record { taken = []; room = self.old.places.room; gated = self.old.gated; faults = 0 }) }
+        ensures writer { IfOk result
+            (λ w.
+            w ≡ record { taken = []; room = self.old.places.room; gated = self.old.gated; faults = 0 }) }
         ensures ok { OnOk result (IsFiled self.old.places.files self.new.places.files name.now []) }
         ensures err { OnErr result (self.new ≡ self.old) }
         ensures gated { self.new.gated ≡ unless_opened result self.old.gated }
@@ -103,7 +122,13 @@ impl Places for GatePlaces {
     fn close_sink(&mut self, name: &str, writer: GateSink)
         requires { IsThere (Some (file_at self.old.places.files)) name.now }
         ensures files { IsFiled self.old.places.files self.new.places.files name.now writer.taken }
-        ensures kept { self.new ≡ record self.old { places = record self.old.places { files = self.new.places.files; write_faults = added self.old.places.write_faults writer.faults } } }
+        ensures kept { self.new
+            ≡ record self.old {
+              places = record self.old.places {
+                files = self.new.places.files;
+                write_faults = added self.old.places.write_faults writer.faults;
+              };
+            } }
     {
         self.write_faults = self.write_faults.saturating_add(writer.faults());
         self.inner.close_sink(name, writer.into_inner());

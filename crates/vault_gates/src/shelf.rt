@@ -34,14 +34,23 @@ impl Model for GateShelf {
 
     ghost coded = { coded_gated };
 
-    ghost view = { λ s. record { blobs = s.inner.blobs; gets = s.gets; kind = s.kind; nth = s.guard.nth; puts = s.guard.calls; faults = s.faults } };
+    ghost view = { λ s.
+        record {
+          blobs = s.inner.blobs;
+          gets = s.gets;
+          kind = s.kind;
+          nth = s.guard.nth;
+          puts = s.guard.calls;
+          faults = s.faults;
+        } };
 }
 
 impl GateShelf {
     /// As `inner`, but the gate guards the put of that number, counted from 1 over the puts of that kind; a put of a floor is
     /// one of the kind of floors. It takes no memory.
     pub fn new(inner: MemShelf, kind: Kind, nth: u64, gate: Gate) -> Self
-        ensures { result ≡ record { blobs = inner.blobs; gets = 0; kind = kind; nth = nth; puts = 0; faults = 0 } }
+        ensures { result
+            ≡ record { blobs = inner.blobs; gets = 0; kind = kind; nth = nth; puts = 0; faults = 0 } }
     {
         GateShelf {
             inner,
@@ -110,11 +119,17 @@ impl Shelf for GateShelf {
     /// The guarded put fails where its gate refuses it. After an `Err` nothing has changed but the counts.
     fn put(&mut self, alloc: Global, name: Name, bytes: &[u8]) -> Result<(), Refused>
         requires { name.kind ≢ Kind.Floor }
-        ensures ok { OnOk result (IsWritten (Some self.old.blobs) (Some self.new.blobs) None None name (Some bytes.now)) }
+        ensures ok { OnOk result
+            (IsWritten (Some self.old.blobs) (Some self.new.blobs) None None name (Some bytes.now)) }
         ensures err { OnErr result (self.new.blobs ≡ self.old.blobs) }
         ensures cause { HasCause self.old.faults self.new.faults result }
         ensures fails { IsErrOf result Refused.Failed → IsGuarded self.old name.kind }
-        ensures counts { self.new ≡ record self.old { blobs = self.new.blobs; puts = puts_after name.kind self.old; faults = counted_if (is_failed result) self.old.faults } }
+        ensures counts { self.new
+            ≡ record self.old {
+              blobs = self.new.blobs;
+              puts = puts_after name.kind self.old;
+              faults = counted_if (is_failed result) self.old.faults;
+            } }
     {
         if !self.lets_go_on(name.kind) {
             self.count_fault();
@@ -125,11 +140,18 @@ impl Shelf for GateShelf {
 
     /// The guarded put fails where its gate refuses it. After an `Err` nothing has changed but the counts.
     fn put_floor(&mut self, set: Set, bytes: &[u8; 28]) -> Result<(), Failed>
-        ensures ok { OnOk result (IsWritten (Some self.old.blobs) (Some self.new.blobs) None None (floor_name set) (Some bytes.now)) }
+        ensures ok { OnOk result
+            (IsWritten (Some self.old.blobs) (Some self.new.blobs) None None (floor_name set)
+            (Some bytes.now)) }
         ensures err { OnErr result (self.new.blobs ≡ self.old.blobs) }
         ensures cause { HasFailed self.old.faults self.new.faults result }
         ensures fails { IsErr result → IsGuarded self.old kinds.Floor }
-        ensures counts { self.new ≡ record self.old { blobs = self.new.blobs; puts = puts_after kinds.Floor self.old; faults = counted_if (is_err result) self.old.faults } }
+        ensures counts { self.new
+            ≡ record self.old {
+              blobs = self.new.blobs;
+              puts = puts_after kinds.Floor self.old;
+              faults = counted_if (is_err result) self.old.faults;
+            } }
     {
         if !self.lets_go_on(Kind::Floor) {
             self.count_fault();

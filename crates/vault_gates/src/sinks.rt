@@ -23,13 +23,15 @@ impl Model for GateSink {
 
     ghost Value = { GatedTaking };
 
-    ghost view = { λ s. record { taken = s.inner.taken; room = s.inner.room; gated = is_some s.gate; faults = s.faults } };
+    ghost view = { λ s.
+        record { taken = s.inner.taken; room = s.inner.room; gated = is_some s.gate; faults = s.faults } };
 }
 
 impl GateSink {
     /// As `inner`, but the gate, if there is one, guards the first write. It takes no memory.
     pub fn new(inner: MemSink, gate: Option<Gate>) -> Self
-        ensures { result ≡ record { taken = inner.taken; room = inner.room; gated = is_some gate; faults = 0 } }
+        ensures { result
+            ≡ record { taken = inner.taken; room = inner.room; gated = is_some gate; faults = 0 } }
     {
         GateSink {
             inner,
@@ -80,13 +82,19 @@ impl Sink for GateSink {
     fn write(&mut self, piece: &[u8]) -> Result<usize, Failed>
         requires { 0 < length piece.now }
         ensures some { IfOk result (λ n. (0 < n) × (n ≤ length piece.now)) }
-        ensures taken { IfOk result (λ n. Takes (Some self.old.taken) (Some self.new.taken) (take n piece.now)) }
+        ensures taken { IfOk result
+            (λ n. Takes (Some self.old.taken) (Some self.new.taken) (take n piece.now)) }
         ensures err { OnErr result (self.new.taken ≡ self.old.taken) }
         ensures cause { HasFailed self.old.faults self.new.faults result }
         ensures fails { IsErr result → (self.old.gated ≡ true) ⊎ (length self.old.taken ≡ self.old.room) }
         ensures full { length self.old.taken ≡ self.old.room → IsErr result }
         ensures many { IfOk result (λ n. n ≡ min (self.old.room - length self.old.taken) (length piece.now)) }
-        ensures counts { self.new ≡ record self.old { taken = self.new.taken; gated = false; faults = counted_if (is_err result) self.old.faults } }
+        ensures counts { self.new
+            ≡ record self.old {
+              taken = self.new.taken;
+              gated = false;
+              faults = counted_if (is_err result) self.old.faults;
+            } }
     {
         if !self.lets_go_on() {
             self.faults = self.faults.saturating_add(1);

@@ -4,7 +4,7 @@ ghost use Rattle.std.specs.List.{concat};
 ghost use Rattle.vault_traits.specs.Counts.{counted, HasFailed};
 ghost use Rattle.vault_traits.specs.Told.{Gives};
 ghost use Rattle.vault_ports.specs.Failing.{counted_if};
-ghost use Rattle.vault_gates.specs.Streams.{next_of, once_given};
+ghost use Rattle.vault_gates.specs.Streams.{first_piece, once_given};
 
 use crate::gate::Gate;
 use crate::guard::Guard;
@@ -25,7 +25,8 @@ impl Model for GateSource {
 
     ghost Value = { GatedGiving };
 
-    ghost view = { λ s. record { pieces = s.pieces; nth = s.guard.nth; calls = s.guard.calls; faults = s.faults } };
+    ghost view = { λ s.
+        record { pieces = s.pieces; nth = s.guard.nth; calls = s.guard.calls; faults = s.faults } };
 }
 
 impl GateSource {
@@ -33,7 +34,8 @@ impl GateSource {
     /// memory.
     pub fn new(pieces: Vec<Vec<u8>>, nth: u64, gate: Gate) -> Self
         requires { All (λ p. 0 < length p.items) pieces.items }
-        ensures { result ≡ record { pieces = map (λ p. p.items) pieces.items; nth = nth; calls = 0; faults = 0 } }
+        ensures { result
+            ≡ record { pieces = map (λ p. p.items) pieces.items; nth = nth; calls = 0; faults = 0 } }
     {
         GateSource {
             pieces: Pieces::new(pieces),
@@ -47,7 +49,7 @@ impl GateSource {
         requires { 0 < length buf.old }
         ensures given { concat self.old.pieces ≡ take result buf.new ++ concat self.new.pieces }
         ensures end { result ≡ 0 → self.old.pieces ≡ [] }
-        ensures many { result ≡ min (length (next_of self.old.pieces)) (length buf.old) }
+        ensures many { result ≡ min (length (first_piece self.old.pieces)) (length buf.old) }
         ensures rest { self.new ≡ record self.old { pieces = once_given result self.old.pieces } }
     {
         let piece = self.pieces.next();
@@ -66,15 +68,21 @@ impl Source for GateSource {
     fn read(&mut self, buf: &mut [u8]) -> Result<usize, Failed>
         requires { 0 < length buf.old }
         ensures fits { IfOk result (λ n. n ≤ length buf.old) }
-        ensures given { IfOk result (λ n. Gives (Some (concat self.old.pieces)) (Some (concat self.new.pieces)) (take n buf.new)) }
+        ensures given { IfOk result
+            (λ n. Gives (Some (concat self.old.pieces)) (Some (concat self.new.pieces)) (take n buf.new)) }
         ensures end { IfOk result (λ n. n ≡ 0 → self.old.pieces ≡ []) }
         ensures err { OnErr result (self.new.pieces ≡ self.old.pieces) }
         ensures buffer { OnErr result (buf.new ≡ buf.old) }
         ensures cause { HasFailed self.old.faults self.new.faults result }
         ensures fails { IsErr result → counted self.old.calls ≡ self.old.nth }
-        ensures many { IfOk result (λ n. n ≡ min (length (next_of self.old.pieces)) (length buf.old)) }
+        ensures many { IfOk result (λ n. n ≡ min (length (first_piece self.old.pieces)) (length buf.old)) }
         ensures rest { IfOk result (λ n. self.new.pieces ≡ once_given n self.old.pieces) }
-        ensures counts { self.new ≡ record self.old { pieces = self.new.pieces; calls = counted self.old.calls; faults = counted_if (is_err result) self.old.faults } }
+        ensures counts { self.new
+            ≡ record self.old {
+              pieces = self.new.pieces;
+              calls = counted self.old.calls;
+              faults = counted_if (is_err result) self.old.faults;
+            } }
     {
         if !self.guard.lets_go_on() {
             self.faults = self.faults.saturating_add(1);

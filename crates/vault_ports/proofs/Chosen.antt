@@ -7,7 +7,7 @@ use Rattle.vault_types.specs.Shelf.{Blobs, with_blob}
 use Rattle.vault_traits.specs.Crash.{ShelfStep, Wrote, Settled, History, IsImage}
 use Rattle.vault_ports.specs.declared.entries.Entry.{Entry}
 use Rattle.vault_ports.specs.declared.entries.Entry.TheVariants.{Put, Floor, Remove, Settle}
-use Rattle.vault_ports.specs.Record.{Write, reading, history_from, history_then, settled, writes_since, carried_out, image_of, entry_step, steps_after, applied, replayed, IsWrite, writes_of, last_write, AreSettled}
+use Rattle.vault_ports.specs.Record.{Write, reading, history_from, history_then, settled_blobs, writes_since, carried_out, image_of, entry_step, steps_after, applied, replayed, IsWrite, writes_of, last_write, AreSettled}
 
 -- ---- an image by its bits is an image
 
@@ -20,7 +20,7 @@ carried_push m [] w t = either (t % 2 == 1)
 carried_push m (x ∷ ws) w t = carried_push (cond (t % 2 == 1) (with_blob m x.0 x.1) m) ws w (t / 2)
 
 image_step : (h : History) (w : Write) (t : ℕ) → IsImage h (image_of h t) → IsImage (Wrote w.0 w.1 ∷ h) (image_of (Wrote w.0 w.1 ∷ h) t)
-image_step h w t image = elim (carried_push (settled h) (writes_since h) w t) [
+image_step h w t image = elim (carried_push (settled_blobs h) (writes_since h) w t) [
   | inl e ↦ inl (subst (λ (b : Blobs). IsImage h b) (sym e) image)
   | inr e ↦ inr (image_of h t, image, e)
 ]
@@ -63,7 +63,7 @@ none_settled base = (refl, refl)
 
 ends_settled : (es : List Entry) → AreSettled (es ++ Settle ∷ [])
 ends_settled es base = (
-  ap (λ (s : List ShelfStep). settled (history_from base s)) (steps_append base [] es (Settle ∷ [])) ∙ reading_replayed base [] es ∙ sym (replayed_settle base es),
+  ap (λ (s : List ShelfStep). settled_blobs (history_from base s)) (steps_append base [] es (Settle ∷ [])) ∙ reading_replayed base [] es ∙ sym (replayed_settle base es),
   ap (λ (s : List ShelfStep). writes_since (history_from base s)) (steps_append base [] es (Settle ∷ [])),
 )
 
@@ -78,7 +78,7 @@ head_write e es all = all 0 e (omega arith)
 tail_writes : (e : Entry) (es : List Entry) → All IsWrite (e ∷ es) → All IsWrite es
 tail_writes e es all = λ k d within. all (suc k) d (omega arith)
 
-settled_writes : (base : Blobs) (past : List ShelfStep) (es : List Entry) → All IsWrite es → settled (history_from base (steps_after base past es)) ≡ settled (history_from base past)
+settled_writes : (base : Blobs) (past : List ShelfStep) (es : List Entry) → All IsWrite es → settled_blobs (history_from base (steps_after base past es)) ≡ settled_blobs (history_from base past)
 settled_writes base past [] all = refl
 settled_writes base past (Put w ∷ es) all = settled_writes base (entry_step (reading base past) (Put w) ∷ past) es (tail_writes (Put w) es all)
 settled_writes base past (Floor set f ∷ es) all = settled_writes base (entry_step (reading base past) (Floor set f) ∷ past) es (tail_writes (Floor set f) es all)
@@ -92,7 +92,7 @@ since_writes base past (Floor set f ∷ es) all = since_writes base (entry_step 
 since_writes base past (Remove name ∷ es) all = since_writes base (entry_step (reading base past) (Remove name) ∷ past) es (tail_writes (Remove name) es all) ∙ append_assoc (writes_since (history_from base past)) _ (writes_of es)
 since_writes base past (Settle ∷ es) all = absurd (head_write Settle es all)
 
-settled_then : (h : History) (w : Option Write) → settled (history_then h w) ≡ settled h
+settled_then : (h : History) (w : Option Write) → settled_blobs (history_then h w) ≡ settled_blobs h
 settled_then h None = refl
 settled_then h (Some w) = refl
 
@@ -109,7 +109,7 @@ pub image_exact : (base m1 m2 m3 : Blobs) (es : List Entry) (k taken rest : ℕ)
 image_exact base m1 m2 m3 es k taken rest last first writes ends chosen at_last =
     at_last ∙ sym (chosen (last_write last))
     ∙ ap (λ (m : Blobs). carried_out m (writes_of (drop k es) ++ last_write last) taken) (sym is_settled)
-    ∙ ap (λ (ws : List Write). carried_out (settled h) ws taken) (sym are_writes)
+    ∙ ap (λ (ws : List Write). carried_out (settled_blobs h) ws taken) (sym are_writes)
   where
     front : List ShelfStep
     front = steps_after base [] (take k es)
@@ -120,8 +120,8 @@ image_exact base m1 m2 m3 es k taken rest last first writes ends chosen at_last 
     same : steps_after base [] es ≡ steps_after base front (drop k es)
     same = ap (steps_after base []) (sym (take-append-drop k es)) ∙ steps_append base [] (take k es) (drop k es)
 
-    is_settled : settled h ≡ m1
-    is_settled = settled_then (history_from base (steps_after base [] es)) last ∙ ap (λ (s : List ShelfStep). settled (history_from base s)) same
+    is_settled : settled_blobs h ≡ m1
+    is_settled = settled_then (history_from base (steps_after base [] es)) last ∙ ap (λ (s : List ShelfStep). settled_blobs (history_from base s)) same
         ∙ settled_writes base front (drop k es) writes ∙ (ends base).0 ∙ sym first
 
     are_writes : writes_since h ≡ writes_of (drop k es) ++ last_write last

@@ -8,8 +8,8 @@ use Rattle.vault_traits.specs.Counts.{counted}
 use Rattle.vault_traits.specs.Told.{ShelfTold}
 use Rattle.vault_ports.specs.Failing.{counted_if}
 
--- the blobs, and the count of payload gets; the numbers of the calls that fail, and whether a write that fails is done;
--- how many calls there were, and how many failed
+-- the blobs, and the count of payload gets; the numbers of the calls that fail, and whether a write
+-- that fails is done; how many calls there were, and how many failed
 pub record FaultyShelf : Type 0 where
   pub blobs : Blobs
   pub gets : ℕ
@@ -20,9 +20,18 @@ pub record FaultyShelf : Type 0 where
 
 abbrev pub coded_faulty : Coded FaultyShelf
 coded_faulty = code_by (Blobs × (ℕ × (List ℕ × (Bool × (ℕ × ℕ)))))
-    (coded× coded_blobs (coded× coded_ℕ (coded× (coded_list coded_ℕ) (coded× coded_bool (coded× coded_ℕ coded_ℕ)))))
+    (coded× coded_blobs
+    (coded× coded_ℕ (coded× (coded_list coded_ℕ) (coded× coded_bool (coded× coded_ℕ coded_ℕ)))))
     (λ s. (s.blobs, (s.gets, (s.fail, (s.keep, (s.calls, s.faults))))))
-    (λ p. record { blobs = p.0; gets = p.1.0; fail = p.1.1.0; keep = p.1.1.1.0; calls = p.1.1.1.1.0; faults = p.1.1.1.1.1 })
+    (λ p.
+    record {
+      blobs = p.0;
+      gets = p.1.0;
+      fail = p.1.1.0;
+      keep = p.1.1.1.0;
+      calls = p.1.1.1.1.0;
+      faults = p.1.1.1.1.1;
+    })
     (λ _. refl)
 
 -- its blobs are told, and no steps

@@ -35,7 +35,9 @@ pub record Shown : Type 0 where
   pub gets : ℕ
 
 abbrev pub coded_shown : Coded Shown
-coded_shown = code_by (Blobs × ℕ) (coded× coded_blobs coded_ℕ) (λ s. (s.blobs, s.gets)) (λ p. record { blobs = p.0; gets = p.1 }) (λ _. refl)
+coded_shown =
+    code_by (Blobs × ℕ) (coded× coded_blobs coded_ℕ) (λ s. (s.blobs, s.gets))
+    (λ p. record { blobs = p.0; gets = p.1 }) (λ _. refl)
 
 -- the same names in order, each once
 pub record IsInOrder (ordered names : List Name) : Type 0 where

@@ -26,8 +26,8 @@ pub record Placing : Type 0 where
   pub read_faults : ℕ
   pub write_faults : ℕ
 
--- of places whose first reader and first writer fail at numbered calls: besides, the most that a read of that reader gives,
--- and the numbers, until that reader or that writer is opened
+-- of places whose first reader and first writer fail at numbered calls: besides, the most that a
+-- read of that reader gives, and the numbers, until that reader or that writer is opened
 pub record FaultyPlacing : Type 0 where
   pub places : Placing
   pub piece : ℕ
@@ -57,4 +57,5 @@ IsFirst (f ∷ fs) name (suc i) = (f.0 ≢ name) × IsFirst fs name i
 
 -- the name has these bytes now, and each other what it had
 abbrev pub IsFiled : Named → Named → List ℕ → List ℕ → Type 0
-IsFiled old new name bytes = (q : List ℕ) → file_at new q ≡ cond (bytes_eq q name) (Some bytes) (file_at old q)
+IsFiled old new name bytes =
+    (q : List ℕ) → file_at new q ≡ cond (bytes_eq q name) (Some bytes) (file_at old q)

@@ -17,8 +17,9 @@ use Rattle.vault_ports.specs.Failing.{counted_if}
 abbrev pub Write : Type 0
 Write = Name × Option (List ℕ)
 
--- the blobs at the beginning; the steps since that were done, the newest first; the write at the stop, which was not done;
--- the number of the call at which it stops, how many calls there were, how many failed, and how many gets of a payload
+-- the blobs at the beginning; the steps since that were done, the newest first; the write at the
+-- stop, which was not done; the number of the call at which it stops, how many calls there were,
+-- how many failed, and how many gets of a payload
 pub record Record : Type 0 where
   pub base : Blobs
   pub steps : List ShelfStep
@@ -30,9 +31,21 @@ pub record Record : Type 0 where
 
 abbrev pub coded_record : Coded Record
 coded_record = code_by (Blobs × (List ShelfStep × (Option Write × (ℕ × (ℕ × (ℕ × ℕ))))))
-    (coded× coded_blobs (coded× (coded_list coded_step) (coded× (coded_option (coded× coded_name (coded_option (coded_list coded_ℕ)))) (coded× coded_ℕ (coded× coded_ℕ (coded× coded_ℕ coded_ℕ))))))
+    (coded× coded_blobs
+    (coded× (coded_list coded_step)
+    (coded× (coded_option (coded× coded_name (coded_option (coded_list coded_ℕ))))
+    (coded× coded_ℕ (coded× coded_ℕ (coded× coded_ℕ coded_ℕ))))))
     (λ r. (r.base, (r.steps, (r.last, (r.stop, (r.calls, (r.faults, r.gets)))))))
-    (λ p. record { base = p.0; steps = p.1.0; last = p.1.1.0; stop = p.1.1.1.0; calls = p.1.1.1.1.0; faults = p.1.1.1.1.1.0; gets = p.1.1.1.1.1.1 })
+    (λ p.
+    record {
+      base = p.0;
+      steps = p.1.0;
+      last = p.1.1.0;
+      stop = p.1.1.1.0;
+      calls = p.1.1.1.1.0;
+      faults = p.1.1.1.1.1.0;
+      gets = p.1.1.1.1.1.1;
+    })
     (λ _. refl)
 
 -- what is read after these steps
@@ -55,10 +68,10 @@ history_of r = history_then (history_from r.base r.steps) r.last
 -- ---- what a crash leaves
 
 -- the blobs as the last settle left them
-abbrev pub settled : History → Blobs
-settled [] = map.empty
-settled (Wrote name bytes ∷ past) = settled past
-settled (Settled m ∷ past) = m
+abbrev pub settled_blobs : History → Blobs
+settled_blobs [] = map.empty
+settled_blobs (Wrote name bytes ∷ past) = settled_blobs past
+settled_blobs (Settled m ∷ past) = m
 
 -- the writes since, the oldest first
 abbrev pub writes_since : History → List Write
@@ -72,7 +85,7 @@ carried_out m [] taken = m
 carried_out m (w ∷ ws) taken = carried_out (cond (taken % 2 == 1) (with_blob m w.0 w.1) m) ws (taken / 2)
 
 abbrev pub image_of : History → ℕ → Blobs
-image_of h taken = carried_out (settled h) (writes_since h) taken
+image_of h taken = carried_out (settled_blobs h) (writes_since h) taken
 
 -- ---- what a call does to it
 
@@ -92,7 +105,7 @@ abbrev pub stops_now : Record → Bool
 stops_now r = nat_lt r.calls r.stop && nat_le r.stop (counted r.calls) && nat_lt (length r.steps) room
 
 -- a write that failed: nothing is done, and the one at the stop is kept
-pub record IsRefused (before after : Record) (name : Name) (bytes : Option (List ℕ)) : Type 0 where
+pub record IsWriteRefused (before after : Record) (name : Name) (bytes : Option (List ℕ)) : Type 0 where
   pub steps : after.steps ≡ before.steps
   pub last : after.last ≡ cond (stops_now before) (Some (name, bytes)) before.last
 
@@ -119,12 +132,14 @@ entry_write (Some (Remove name)) = Some (name, None)
 entry_write (Some Settle) = None
 
 -- what is read is an image
-pub reads_from : (base : Blobs) (steps : List ShelfStep) → IsImage (history_from base steps) (reading base steps)
+pub reads_from : (base : Blobs) (steps : List ShelfStep)
+    → IsImage (history_from base steps) (reading base steps)
 reads_from base [] = refl
 reads_from base (Wrote name bytes ∷ past) = inr (reading base past, reads_from base past, refl)
 reads_from base (Settled m ∷ past) = refl
 
-pub reads_then : (base : Blobs) (steps : List ShelfStep) (last : Option Write) → IsImage (history_then (history_from base steps) last) (reading base steps)
+pub reads_then : (base : Blobs) (steps : List ShelfStep) (last : Option Write)
+    → IsImage (history_then (history_from base steps) last) (reading base steps)
 reads_then base steps None = reads_from base steps
 reads_then base steps (Some write) = inl (reads_from base steps)
 
@@ -134,7 +149,12 @@ some_of x (Some y) = y
 
 pub told_image : (r : Record) → ReadsAnImage (Some (reading r.base r.steps)) (Some (history_of r))
 unfolding some_of
-told_image r h kept = (reading r.base r.steps, refl, subst (λ (g : History). IsImage g (reading r.base r.steps)) (ap (some_of h) kept) (reads_then r.base r.steps r.last))
+told_image r h kept = (
+  reading r.base r.steps,
+  refl,
+  subst (λ (g : History). IsImage g (reading r.base r.steps)) (ap (some_of h) kept)
+      (reads_then r.base r.steps r.last),
+)
 
 -- the blobs after an entry, and after entries in order
 abbrev pub applied : Blobs → Entry → Blobs
@@ -168,4 +188,7 @@ last_write (Some write) = write ∷ []
 
 -- the entries are none, or end with a settle
 abbrev pub AreSettled : List Entry → Type 0
-AreSettled es = (base : Blobs) → (settled (history_from base (steps_after base [] es)) ≡ replayed base es) × (writes_since (history_from base (steps_after base [] es)) ≡ [])
+AreSettled es =
+    (base : Blobs)
+    → (settled_blobs (history_from base (steps_after base [] es)) ≡ replayed base es)
+    × (writes_since (history_from base (steps_after base [] es)) ≡ [])

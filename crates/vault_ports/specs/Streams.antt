@@ -6,7 +6,8 @@ pub record Giving : Type 0 where
   pub left : List ℕ
   pub piece : ℕ
 
--- of a source whose numbered reads fail: besides, their numbers, how many reads there were, and how many failed
+-- of a source whose numbered reads fail: besides, their numbers, how many reads there were, and how
+-- many failed
 pub record FaultyGiving : Type 0 where
   pub left : List ℕ
   pub piece : ℕ

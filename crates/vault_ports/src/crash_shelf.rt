@@ -7,7 +7,7 @@ ghost use Rattle.vault_traits.specs.Counts.{counted, HasCause, HasFailed};
 ghost use Rattle.vault_traits.specs.Crash.{Wrote, IsImage};
 ghost use Rattle.vault_traits.specs.Shelf.{gets_after, history_settled, IsWritten, MayBeWritten, IsAsBefore, IsListing};
 ghost use Rattle.vault_ports.specs.Failing.{is_failed};
-ghost use Rattle.vault_ports.specs.Record.{room, entry_write, entry_step, reading, history_of, image_of, IsCounted, IsRefused};
+ghost use Rattle.vault_ports.specs.Record.{room, entry_write, entry_step, reading, history_of, image_of, IsCounted, IsWriteRefused};
 
 use crate::entries::{Entry, Writing};
 use crate::mem_shelf::{MemShelf, count_get};
@@ -48,9 +48,20 @@ impl Model for CrashShelf {
 
     ghost coded = { coded_record };
 
-    ghost view = { λ s. record { base = s.start.blobs; steps = steps_after s.start.blobs [] s.entries.items; last = entry_write s.last; stop = s.stop; calls = s.calls; faults = s.faults; gets = s.gets } };
+    ghost view = { λ s.
+        record {
+          base = s.start.blobs;
+          steps = steps_after s.start.blobs [] s.entries.items;
+          last = entry_write s.last;
+          stop = s.stop;
+          calls = s.calls;
+          faults = s.faults;
+          gets = s.gets;
+        } };
 
-    ghost invariant = { λ s. (s.current.blobs ≡ reading s.start.blobs (steps_after s.start.blobs [] s.entries.items)) × (IsSome s.last → s.stop ≤ s.calls) × (1024 ≤ vec_capacity s.entries) × (s.start.gets ≡ 0) };
+    ghost invariant = { λ s.
+        (s.current.blobs ≡ reading s.start.blobs (steps_after s.start.blobs [] s.entries.items))
+        × (IsSome s.last → s.stop ≤ s.calls) × (1024 ≤ vec_capacity s.entries) × (s.start.gets ≡ 0) };
 }
 
 fn keep_entry(entries: &mut Vec<Entry>, entry: Entry)
@@ -68,7 +79,18 @@ impl CrashShelf {
     /// As `inner`, but the call numbered `stop` and each later one fails and leaves the old content, counted from 1 over
     /// all six kinds. It has room for a record of 1,024 writing calls and settles; one that finds no room fails.
     pub fn new(alloc: Global, inner: MemShelf, stop: u64) -> Result<Self, Memory>
-        ensures { IfOk result (λ s. s ≡ record { base = inner.blobs; steps = []; last = None; stop = stop; calls = 0; faults = 0; gets = 0 }) }
+        ensures { IfOk result
+            (λ s.
+            s
+            ≡ record {
+              base = inner.blobs;
+              steps = [];
+              last = None;
+              stop = stop;
+              calls = 0;
+              faults = 0;
+              gets = 0;
+            }) }
     {
         let start = inner.copy()?;
         Ok(CrashShelf {
@@ -138,9 +160,14 @@ impl CrashShelf {
     // Counts a writing call or a settle, and tells what becomes of it.
     fn begin(&mut self) -> Turn
         ensures calls { self.new ≡ record self.old { calls = counted self.old.calls } }
-        ensures goes { result ≡ Turn.Goes → (counted self.old.calls < self.old.stop) × (length self.old.steps < room) × (self.old.last ≡ None) }
-        ensures stops { result ≡ Turn.Stops → (self.old.calls < self.old.stop) × (self.old.stop ≤ counted self.old.calls) × (length self.old.steps < room) × (self.old.last ≡ None) }
-        ensures refused { result ≡ Turn.Refused → (self.old.stop ≤ self.old.calls) ⊎ (room ≤ length self.old.steps) }
+        ensures goes { result ≡ Turn.Goes
+            → (counted self.old.calls < self.old.stop) × (length self.old.steps < room)
+            × (self.old.last ≡ None) }
+        ensures stops { result ≡ Turn.Stops
+            → (self.old.calls < self.old.stop) × (self.old.stop ≤ counted self.old.calls)
+            × (length self.old.steps < room) × (self.old.last ≡ None) }
+        ensures refused { result ≡ Turn.Refused
+            → (self.old.stop ≤ self.old.calls) ⊎ (room ≤ length self.old.steps) }
     {
         let fits = self.has_room();
         let before = self.calls;
@@ -196,10 +223,17 @@ fn put_entry(alloc: Global, name: Name, bytes: &[u8]) -> Result<Entry, Refused>
 impl Shelf for CrashShelf {
     ghost use Rattle.vault_ports.specs.Record.{told_image};
 
-    ghost told = { λ s. record { blobs = Some (reading s.base s.steps); history = Some (history_of s); faults = s.faults; gets = s.gets } };
+    ghost told = { λ s.
+        record {
+          blobs = Some (reading s.base s.steps);
+          history = Some (history_of s);
+          faults = s.faults;
+          gets = s.gets;
+        } };
 
     fn get(&mut self, alloc: Global, name: Name) -> Result<Option<Vec<u8>>, Refused>
-        ensures found { IfOk result (λ found. option_map (λ v. v.items) found ≡ map.get (reading self.old.base self.old.steps) name) }
+        ensures found { IfOk result
+            (λ found. option_map (λ v. v.items) found ≡ map.get (reading self.old.base self.old.steps) name) }
         ensures steps { self.new.steps ≡ self.old.steps }
         ensures last { self.new.last ≡ self.old.last }
         ensures gets { self.new.gets ≡ gets_after name.kind self.old.gets }
@@ -218,14 +252,23 @@ impl Shelf for CrashShelf {
     /// A put that answers want of memory is not in the record.
     fn put(&mut self, alloc: Global, name: Name, bytes: &[u8]) -> Result<(), Refused>
         requires { name.kind ≢ Kind.Floor }
-        ensures ok { OnOk result (IsWritten (Some (reading self.old.base self.old.steps)) (Some (reading self.new.base self.new.steps)) (Some (history_of self.old)) (Some (history_of self.new)) name (Some bytes.now)) }
-        ensures at_most { MayBeWritten (Some (reading self.old.base self.old.steps)) (Some (reading self.new.base self.new.steps)) (Some (history_of self.old)) (Some (history_of self.new)) name (Some bytes.now) }
-        ensures failed { IsErrOf result Refused.Failed → IsRefused self.old self.new name (Some bytes.now) }
-        ensures memory { IsErrOf result Refused.Memory → (self.new.steps ≡ self.old.steps) × (self.new.last ≡ self.old.last) }
+        ensures ok { OnOk result
+            (IsWritten (Some (reading self.old.base self.old.steps))
+            (Some (reading self.new.base self.new.steps)) (Some (history_of self.old))
+            (Some (history_of self.new)) name (Some bytes.now)) }
+        ensures at_most { MayBeWritten (Some (reading self.old.base self.old.steps))
+            (Some (reading self.new.base self.new.steps)) (Some (history_of self.old))
+            (Some (history_of self.new)) name (Some bytes.now) }
+        ensures failed { IsErrOf result Refused.Failed
+            → IsWriteRefused self.old self.new name (Some bytes.now) }
+        ensures memory { IsErrOf result Refused.Memory
+            → (self.new.steps ≡ self.old.steps) × (self.new.last ≡ self.old.last) }
         ensures gets { self.new.gets ≡ self.old.gets }
         ensures cause { HasCause self.old.faults self.new.faults result }
-        ensures fails { IsErrOf result Refused.Failed → (self.old.stop ≤ counted self.old.calls) ⊎ (room ≤ length self.old.steps) }
-        ensures must { (self.old.stop ≤ counted self.old.calls) ⊎ (room ≤ length self.old.steps) → IsErr result }
+        ensures fails { IsErrOf result Refused.Failed
+            → (self.old.stop ≤ counted self.old.calls) ⊎ (room ≤ length self.old.steps) }
+        ensures must { (self.old.stop ≤ counted self.old.calls) ⊎ (room ≤ length self.old.steps)
+            → IsErr result }
         ensures counts { IsCounted self.old self.new (is_failed result) }
     {
         match self.begin() {
@@ -248,12 +291,18 @@ impl Shelf for CrashShelf {
     }
 
     fn put_floor(&mut self, set: Set, bytes: &[u8; 28]) -> Result<(), Failed>
-        ensures ok { OnOk result (IsWritten (Some (reading self.old.base self.old.steps)) (Some (reading self.new.base self.new.steps)) (Some (history_of self.old)) (Some (history_of self.new)) (floor_name set) (Some bytes.now)) }
-        ensures at_most { MayBeWritten (Some (reading self.old.base self.old.steps)) (Some (reading self.new.base self.new.steps)) (Some (history_of self.old)) (Some (history_of self.new)) (floor_name set) (Some bytes.now) }
-        ensures failed { OnErr result (IsRefused self.old self.new (floor_name set) (Some bytes.now)) }
+        ensures ok { OnOk result
+            (IsWritten (Some (reading self.old.base self.old.steps))
+            (Some (reading self.new.base self.new.steps)) (Some (history_of self.old))
+            (Some (history_of self.new)) (floor_name set) (Some bytes.now)) }
+        ensures at_most { MayBeWritten (Some (reading self.old.base self.old.steps))
+            (Some (reading self.new.base self.new.steps)) (Some (history_of self.old))
+            (Some (history_of self.new)) (floor_name set) (Some bytes.now) }
+        ensures failed { OnErr result (IsWriteRefused self.old self.new (floor_name set) (Some bytes.now)) }
         ensures gets { self.new.gets ≡ self.old.gets }
         ensures cause { HasFailed self.old.faults self.new.faults result }
-        ensures fails { IsErr result ↔ ((self.old.stop ≤ counted self.old.calls) ⊎ (room ≤ length self.old.steps)) }
+        ensures fails { IsErr result
+            ↔ ((self.old.stop ≤ counted self.old.calls) ⊎ (room ≤ length self.old.steps)) }
         ensures counts { IsCounted self.old self.new (is_err result) }
     {
         match self.begin() {
@@ -274,12 +323,18 @@ impl Shelf for CrashShelf {
     }
 
     fn remove(&mut self, name: Name) -> Result<(), Failed>
-        ensures ok { OnOk result (IsWritten (Some (reading self.old.base self.old.steps)) (Some (reading self.new.base self.new.steps)) (Some (history_of self.old)) (Some (history_of self.new)) name None) }
-        ensures at_most { MayBeWritten (Some (reading self.old.base self.old.steps)) (Some (reading self.new.base self.new.steps)) (Some (history_of self.old)) (Some (history_of self.new)) name None }
-        ensures failed { OnErr result (IsRefused self.old self.new name None) }
+        ensures ok { OnOk result
+            (IsWritten (Some (reading self.old.base self.old.steps))
+            (Some (reading self.new.base self.new.steps)) (Some (history_of self.old))
+            (Some (history_of self.new)) name None) }
+        ensures at_most { MayBeWritten (Some (reading self.old.base self.old.steps))
+            (Some (reading self.new.base self.new.steps)) (Some (history_of self.old))
+            (Some (history_of self.new)) name None }
+        ensures failed { OnErr result (IsWriteRefused self.old self.new name None) }
         ensures gets { self.new.gets ≡ self.old.gets }
         ensures cause { HasFailed self.old.faults self.new.faults result }
-        ensures fails { IsErr result ↔ ((self.old.stop ≤ counted self.old.calls) ⊎ (room ≤ length self.old.steps)) }
+        ensures fails { IsErr result
+            ↔ ((self.old.stop ≤ counted self.old.calls) ⊎ (room ≤ length self.old.steps)) }
         ensures counts { IsCounted self.old self.new (is_err result) }
     {
         match self.begin() {
@@ -316,12 +371,16 @@ impl Shelf for CrashShelf {
     }
 
     fn settle(&mut self) -> Result<(), Failed>
-        ensures ok { OnOk result (Some (history_of self.new) ≡ history_settled (Some (reading self.old.base self.old.steps)) (Some (history_of self.old))) }
+        ensures ok { OnOk result
+            (Some (history_of self.new)
+            ≡ history_settled (Some (reading self.old.base self.old.steps))
+            (Some (history_of self.old))) }
         ensures blobs { reading self.new.base self.new.steps ≡ reading self.old.base self.old.steps }
         ensures failed { OnErr result ((self.new.steps ≡ self.old.steps) × (self.new.last ≡ self.old.last)) }
         ensures gets { self.new.gets ≡ self.old.gets }
         ensures cause { HasFailed self.old.faults self.new.faults result }
-        ensures fails { IsErr result ↔ ((self.old.stop ≤ counted self.old.calls) ⊎ (room ≤ length self.old.steps)) }
+        ensures fails { IsErr result
+            ↔ ((self.old.stop ≤ counted self.old.calls) ⊎ (room ≤ length self.old.steps)) }
         ensures counts { IsCounted self.old self.new (is_err result) }
     {
         match self.begin() {

@@ -30,7 +30,13 @@ impl Model for FaultPlaces {
 
     ghost Value = { FaultyPlacing };
 
-    ghost view = { λ p. record { places = p.inner; piece = p.piece; reads = option_map (λ v. v.items) p.reads; writes = option_map (λ v. v.items) p.writes } };
+    ghost view = { λ p.
+        record {
+          places = p.inner;
+          piece = p.piece;
+          reads = option_map (λ v. v.items) p.reads;
+          writes = option_map (λ v. v.items) p.writes;
+        } };
 
     ghost invariant = { λ p. 1 ≤ p.piece };
 }
@@ -48,7 +54,16 @@ impl FaultPlaces {
         writes: Vec<u64>,
     ) -> Result<Self, Memory>
         requires { 0 < piece }
-        ensures places { IfOk result (λ p. p.places ≡ record { files = files_of files.items; room = room; faults = 0; read_faults = 0; write_faults = 0 }) }
+        ensures places { IfOk result
+            (λ p.
+            p.places
+            ≡ record {
+              files = files_of files.items;
+              room = room;
+              faults = 0;
+              read_faults = 0;
+              write_faults = 0;
+            }) }
         ensures piece { IfOk result (λ p. p.piece ≡ piece) }
         ensures reads { IfOk result (λ p. p.reads ≡ Some reads.items) }
         ensures writes { IfOk result (λ p. p.writes ≡ Some writes.items) }
@@ -74,7 +89,13 @@ impl Places for FaultPlaces {
 
     type Writer = FaultSink;
 
-    ghost told = { λ p. record { files = Some (file_at p.places.files); faults = p.places.faults; read_faults = p.places.read_faults; write_faults = p.places.write_faults } };
+    ghost told = { λ p.
+        record {
+          files = Some (file_at p.places.files);
+          faults = p.places.faults;
+          read_faults = p.places.read_faults;
+          write_faults = p.places.write_faults;
+        } };
 
     ghost room = { None };
 
@@ -82,7 +103,11 @@ impl Places for FaultPlaces {
         ensures bytes { IfOk result (λ r. Some r.left ≡ file_at self.old.places.files name.now) }
         ensures reader { IfOk result (λ r. r ≡ reader_of r.left self.old.piece self.old.reads) }
         ensures reads { self.new.reads ≡ unless_taken result self.old.reads }
-        ensures kept { self.new ≡ record self.old { places = record self.old.places { faults = self.new.places.faults }; reads = self.new.reads } }
+        ensures kept { self.new
+            ≡ record self.old {
+              places = record self.old.places { faults = self.new.places.faults };
+              reads = self.new.reads;
+            } }
         ensures fails { IsErrOf result Refused.Failed ↔ (file_at self.old.places.files name.now ≡ None) }
         ensures counts { self.new.places.faults ≡ counted_if (is_failed result) self.old.places.faults }
     {
@@ -94,7 +119,13 @@ impl Places for FaultPlaces {
     }
 
     fn close_source(&mut self, reader: FaultSource)
-        ensures { self.new ≡ record self.old { places = record self.old.places { read_faults = added self.old.places.read_faults reader.faults } } }
+        ensures { self.new
+            ≡ record self.old {
+              places = record self.old.places {
+                read_faults = added
+                    self.old.places.read_faults reader.faults;
+              };
+            } }
     {
         self.inner.add_read_faults(reader.faults());
     }
@@ -104,7 +135,11 @@ impl Places for FaultPlaces {
         ensures ok { OnOk result (IsFiled self.old.places.files self.new.places.files name.now []) }
         ensures err { OnErr result (self.new ≡ self.old) }
         ensures writes { self.new.writes ≡ unless_taken result self.old.writes }
-        ensures kept { self.new ≡ record self.old { places = record self.old.places { files = self.new.places.files }; writes = self.new.writes } }
+        ensures kept { self.new
+            ≡ record self.old {
+              places = record self.old.places { files = self.new.places.files };
+              writes = self.new.writes;
+            } }
         ensures memory { OnErr result (IsErrOf result Refused.Memory) }
     {
         let plain = self.inner.open_sink(alloc, name)?;
@@ -117,7 +152,13 @@ impl Places for FaultPlaces {
     fn close_sink(&mut self, name: &str, writer: FaultSink)
         requires { IsThere (Some (file_at self.old.places.files)) name.now }
         ensures files { IsFiled self.old.places.files self.new.places.files name.now writer.taken }
-        ensures kept { self.new ≡ record self.old { places = record self.old.places { files = self.new.places.files; write_faults = added self.old.places.write_faults writer.faults } } }
+        ensures kept { self.new
+            ≡ record self.old {
+              places = record self.old.places {
+                files = self.new.places.files;
+                write_faults = added self.old.places.write_faults writer.faults;
+              };
+            } }
     {
         self.inner.add_write_faults(writer.faults());
         self.inner.give(name, writer.into_vec());

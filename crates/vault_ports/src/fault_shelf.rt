@@ -32,14 +32,30 @@ impl Model for FaultShelf {
 
     ghost coded = { coded_faulty };
 
-    ghost view = { λ s. record { blobs = s.inner.blobs; gets = s.gets; fail = s.numbered.fail.items; keep = s.keep; calls = s.numbered.calls; faults = s.faults } };
+    ghost view = { λ s.
+        record {
+          blobs = s.inner.blobs;
+          gets = s.gets;
+          fail = s.numbered.fail.items;
+          keep = s.keep;
+          calls = s.numbered.calls;
+          faults = s.faults;
+        } };
 }
 
 impl FaultShelf {
     /// As `inner`, but the calls of these numbers fail, counted from 1 over all six kinds. `keep` says whether a write that
     /// fails is done.
     pub fn new(inner: MemShelf, fail: Vec<u64>, keep: bool) -> Self
-        ensures { result ≡ record { blobs = inner.blobs; gets = 0; fail = fail.items; keep = keep; calls = 0; faults = 0 } }
+        ensures { result
+            ≡ record {
+              blobs = inner.blobs;
+              gets = 0;
+              fail = fail.items;
+              keep = keep;
+              calls = 0;
+              faults = 0;
+            } }
     {
         FaultShelf {
             inner,
@@ -105,14 +121,17 @@ impl Shelf for FaultShelf {
     /// A put that fails is done where `keep` says so, unless there is no memory.
     fn put(&mut self, alloc: Global, name: Name, bytes: &[u8]) -> Result<(), Refused>
         requires { name.kind ≢ Kind.Floor }
-        ensures ok { OnOk result (IsWritten (Some self.old.blobs) (Some self.new.blobs) None None name (Some bytes.now)) }
-        ensures at_most { MayBeWritten (Some self.old.blobs) (Some self.new.blobs) None None name (Some bytes.now) }
+        ensures ok { OnOk result
+            (IsWritten (Some self.old.blobs) (Some self.new.blobs) None None name (Some bytes.now)) }
+        ensures at_most { MayBeWritten (Some self.old.blobs) (Some self.new.blobs) None None name
+            (Some bytes.now) }
         ensures memory { IsErrOf result Refused.Memory → IsAsBefore (told_of self.old) (told_of self.new) }
         ensures gets { self.new.gets ≡ self.old.gets }
         ensures cause { HasCause self.old.faults self.new.faults result }
         ensures fails { IsErrOf result Refused.Failed → FailsNow self.old }
         ensures must { FailsNow self.old → IsErr result }
-        ensures done { IsErrOf result Refused.Failed → self.new.blobs ≡ done_if self.old.keep self.old.blobs name (Some bytes.now) }
+        ensures done { IsErrOf result Refused.Failed
+            → self.new.blobs ≡ done_if self.old.keep self.old.blobs name (Some bytes.now) }
         ensures counts { IsCounted self.old self.new (is_failed result) }
     {
         if !self.fails_now() {
@@ -126,12 +145,16 @@ impl Shelf for FaultShelf {
     }
 
     fn put_floor(&mut self, set: Set, bytes: &[u8; 28]) -> Result<(), Failed>
-        ensures ok { OnOk result (IsWritten (Some self.old.blobs) (Some self.new.blobs) None None (floor_name set) (Some bytes.now)) }
-        ensures at_most { MayBeWritten (Some self.old.blobs) (Some self.new.blobs) None None (floor_name set) (Some bytes.now) }
+        ensures ok { OnOk result
+            (IsWritten (Some self.old.blobs) (Some self.new.blobs) None None (floor_name set)
+            (Some bytes.now)) }
+        ensures at_most { MayBeWritten (Some self.old.blobs) (Some self.new.blobs) None None (floor_name set)
+            (Some bytes.now) }
         ensures gets { self.new.gets ≡ self.old.gets }
         ensures cause { HasFailed self.old.faults self.new.faults result }
         ensures fails { IsErr result ↔ FailsNow self.old }
-        ensures done { OnErr result (self.new.blobs ≡ done_if self.old.keep self.old.blobs (floor_name set) (Some bytes.now)) }
+        ensures done { OnErr result
+            (self.new.blobs ≡ done_if self.old.keep self.old.blobs (floor_name set) (Some bytes.now)) }
         ensures counts { IsCounted self.old self.new (is_err result) }
     {
         if !self.fails_now() {

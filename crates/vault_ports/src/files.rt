@@ -15,7 +15,9 @@ pub struct Files {
 impl Files {
     // Where the name stands first.
     fn index_of(&self, name: &str) -> Option<usize>
-        ensures { MatchOption result (file_at (files_of self.now.list.items) name.now ≡ None) (λ i. (i < length self.now.list.items) × IsFirst (files_of self.now.list.items) name.now i) }
+        ensures { MatchOption result (file_at (files_of self.now.list.items) name.now ≡ None)
+            (λ i. (i < length self.now.list.items)
+            × IsFirst (files_of self.now.list.items) name.now i) }
     {
         for (i, file) in self.list.iter().enumerate() {
             if file.0.as_str() == name {
@@ -48,7 +50,8 @@ impl Files {
 
     // Gives a name no bytes.
     pub fn empty(&mut self, alloc: Global, name: &str) -> Result<(), Memory>
-        ensures ok { OnOk result (IsFiled (files_of self.old.list.items) (files_of self.new.list.items) name.now []) }
+        ensures ok { OnOk result
+            (IsFiled (files_of self.old.list.items) (files_of self.new.list.items) name.now []) }
         ensures err { OnErr result (files_of self.new.list.items ≡ files_of self.old.list.items) }
     {
         match self.index_of(name) {

@@ -93,7 +93,9 @@ impl Floors {
 
     // Puts the names of the floors behind others.
     pub fn push_names(&self, names: &mut Vec<Name>) -> Result<(), Memory>
-        ensures { OnOk result ((q : Name) → is_member (eq_by_cmp name_cmp) names.new.items q ≡ (is_member (eq_by_cmp name_cmp) names.old.items q || map.contains_key self.now q)) }
+        ensures { OnOk result ((q : Name)
+            → is_member (eq_by_cmp name_cmp) names.new.items q
+            ≡ (is_member (eq_by_cmp name_cmp) names.old.items q || map.contains_key self.now q)) }
     {
         for (i, slot) in self.slots.iter().enumerate() {
             if slot.is_some() {

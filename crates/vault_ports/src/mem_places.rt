@@ -29,14 +29,30 @@ impl Model for MemPlaces {
 
     ghost Value = { Placing };
 
-    ghost view = { λ p. record { files = files_of p.files.list.items; room = p.room; faults = p.faults; read_faults = p.read_faults; write_faults = p.write_faults } };
+    ghost view = { λ p.
+        record {
+          files = files_of p.files.list.items;
+          room = p.room;
+          faults = p.faults;
+          read_faults = p.read_faults;
+          write_faults = p.write_faults;
+        } };
 }
 
 impl MemPlaces {
     /// Places with these names and bytes, whose writers have room for so many bytes each. Where a name stands twice, the
     /// first counts.
     pub fn with(_alloc: Global, files: Vec<(String, Vec<u8>)>, room: usize) -> Result<Self, Memory>
-        ensures { IfOk result (λ p. p ≡ record { files = files_of files.items; room = room; faults = 0; read_faults = 0; write_faults = 0 }) }
+        ensures { IfOk result
+            (λ p.
+            p
+            ≡ record {
+              files = files_of files.items;
+              room = room;
+              faults = 0;
+              read_faults = 0;
+              write_faults = 0;
+            }) }
     {
         Ok(MemPlaces {
             files: Files { list: files },
@@ -83,7 +99,13 @@ impl Places for MemPlaces {
 
     type Writer = MemSink;
 
-    ghost told = { λ p. record { files = Some (file_at p.files); faults = p.faults; read_faults = p.read_faults; write_faults = p.write_faults } };
+    ghost told = { λ p.
+        record {
+          files = Some (file_at p.files);
+          faults = p.faults;
+          read_faults = p.read_faults;
+          write_faults = p.write_faults;
+        } };
 
     ghost room = { None };
 
@@ -126,7 +148,11 @@ impl Places for MemPlaces {
     fn close_sink(&mut self, name: &str, writer: MemSink)
         requires { IsThere (Some (file_at self.old.files)) name.now }
         ensures files { IsFiled self.old.files self.new.files name.now writer.taken }
-        ensures kept { self.new ≡ record self.old { files = self.new.files; write_faults = added self.old.write_faults writer.faults } }
+        ensures kept { self.new
+            ≡ record self.old {
+              files = self.new.files;
+              write_faults = added self.old.write_faults writer.faults;
+            } }
     {
         self.add_write_faults(writer.faults());
         self.give(name, writer.into_vec());

@@ -39,7 +39,9 @@ pub fn choose(
     taken: u64,
 ) -> Result<u64, Refused>
     requires { All IsWrite entries.now }
-    ensures blobs { IfOk result (λ rest. (more : List Write) → carried_out shelf.old.blobs (writes_of entries.now ++ more) taken ≡ carried_out shelf.new.blobs more rest) }
+    ensures blobs { IfOk result (λ rest. (more : List Write)
+        → carried_out shelf.old.blobs (writes_of entries.now ++ more) taken
+        ≡ carried_out shelf.new.blobs more rest) }
     ensures gets { shelf.new.gets ≡ shelf.old.gets }
 {
     let mut rest = taken;
@@ -59,7 +61,8 @@ pub fn choose_last(
     last: &Option<Entry>,
     rest: u64,
 ) -> Result<(), Refused>
-    ensures blobs { OnOk result (shelf.new.blobs ≡ carried_out shelf.old.blobs (last_write (entry_write last.now)) rest) }
+    ensures blobs { OnOk result
+        (shelf.new.blobs ≡ carried_out shelf.old.blobs (last_write (entry_write last.now)) rest) }
     ensures gets { shelf.new.gets ≡ shelf.old.gets }
 {
     match last {

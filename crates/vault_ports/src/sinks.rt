@@ -65,7 +65,8 @@ impl Sink for MemSink {
     fn write(&mut self, piece: &[u8]) -> Result<usize, Failed>
         requires { 0 < length piece.now }
         ensures some { IfOk result (λ n. (0 < n) × (n ≤ length piece.now)) }
-        ensures taken { IfOk result (λ n. Takes (Some self.old.taken) (Some self.new.taken) (take n piece.now)) }
+        ensures taken { IfOk result
+            (λ n. Takes (Some self.old.taken) (Some self.new.taken) (take n piece.now)) }
         ensures err { OnErr result (self.new.taken ≡ self.old.taken) }
         ensures cause { HasFailed self.old.faults self.new.faults result }
         ensures fails { IsErr result ↔ (length self.old.taken ≡ self.old.room) }
@@ -102,13 +103,21 @@ impl Model for FaultSink {
 
     ghost Value = { FaultyTaking };
 
-    ghost view = { λ s. record { taken = s.inner.taken; room = s.inner.room; fail = s.numbered.fail.items; calls = s.numbered.calls; faults = s.faults } };
+    ghost view = { λ s.
+        record {
+          taken = s.inner.taken;
+          room = s.inner.room;
+          fail = s.numbered.fail.items;
+          calls = s.numbered.calls;
+          faults = s.faults;
+        } };
 }
 
 impl FaultSink {
     /// As `inner`, but the writes of these numbers fail too, counted from 1.
     pub fn new(inner: MemSink, fail: Vec<u64>) -> Self
-        ensures { result ≡ record { taken = inner.taken; room = inner.room; fail = fail.items; calls = 0; faults = 0 } }
+        ensures { result
+            ≡ record { taken = inner.taken; room = inner.room; fail = fail.items; calls = 0; faults = 0 } }
     {
         FaultSink {
             inner,
@@ -141,10 +150,12 @@ impl Sink for FaultSink {
     fn write(&mut self, piece: &[u8]) -> Result<usize, Failed>
         requires { 0 < length piece.now }
         ensures some { IfOk result (λ n. (0 < n) × (n ≤ length piece.now)) }
-        ensures taken { IfOk result (λ n. Takes (Some self.old.taken) (Some self.new.taken) (take n piece.now)) }
+        ensures taken { IfOk result
+            (λ n. Takes (Some self.old.taken) (Some self.new.taken) (take n piece.now)) }
         ensures err { OnErr result (self.new.taken ≡ self.old.taken) }
         ensures cause { HasFailed self.old.faults self.new.faults result }
-        ensures fails { IsErr result ↔ (Contains self.old.fail (counted self.old.calls) ⊎ (length self.old.taken ≡ self.old.room)) }
+        ensures fails { IsErr result
+            ↔ (Contains self.old.fail (counted self.old.calls) ⊎ (length self.old.taken ≡ self.old.room)) }
         ensures many { IfOk result (λ n. n ≡ min (self.old.room - length self.old.taken) (length piece.now)) }
         ensures room { self.new.room ≡ self.old.room }
         ensures fail { self.new.fail ≡ self.old.fail }

@@ -99,13 +99,21 @@ impl Model for FaultSource {
 
     ghost Value = { FaultyGiving };
 
-    ghost view = { λ s. record { left = s.inner.left; piece = s.inner.piece; fail = s.numbered.fail.items; calls = s.numbered.calls; faults = s.faults } };
+    ghost view = { λ s.
+        record {
+          left = s.inner.left;
+          piece = s.inner.piece;
+          fail = s.numbered.fail.items;
+          calls = s.numbered.calls;
+          faults = s.faults;
+        } };
 }
 
 impl FaultSource {
     /// As `inner`, but the reads of these numbers fail, counted from 1.
     pub fn new(inner: MemSource, fail: Vec<u64>) -> Self
-        ensures { result ≡ record { left = inner.left; piece = inner.piece; fail = fail.items; calls = 0; faults = 0 } }
+        ensures { result
+            ≡ record { left = inner.left; piece = inner.piece; fail = fail.items; calls = 0; faults = 0 } }
     {
         FaultSource {
             inner,
@@ -134,7 +142,8 @@ impl Source for FaultSource {
         ensures err { OnErr result (self.new.left ≡ self.old.left) }
         ensures cause { HasFailed self.old.faults self.new.faults result }
         ensures fails { IsErr result ↔ Contains self.old.fail (counted self.old.calls) }
-        ensures many { IfOk result (λ n. n ≡ min (min (length self.old.left) self.old.piece) (length buf.old)) }
+        ensures many { IfOk result
+            (λ n. n ≡ min (min (length self.old.left) self.old.piece) (length buf.old)) }
         ensures piece { self.new.piece ≡ self.old.piece }
         ensures fail { self.new.fail ≡ self.old.fail }
         ensures calls { self.new.calls ≡ counted self.old.calls }

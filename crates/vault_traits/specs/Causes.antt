@@ -1,12 +1,9 @@
 -- Why a call over a shelf was refused.
-use Rattle.std.specs.Prelude.{◌≡◌, ◌≤◌, ℕ, List, Option, Result, IfErr, IfSome}
-use Rattle.std.specs.FinMap as map
+use Rattle.std.specs.Prelude.{◌≡◌, ◌≤◌, ℕ, Result, IfErr}
 use Rattle.vault_types.specs.declared.Kind.{Kind}
-use Rattle.vault_types.specs.declared.Name.{Name}
 use Rattle.vault_types.specs.declared.Why.{Why}
 use Rattle.vault_types.specs.declared.Fault.{Fault}
 use Rattle.vault_types.specs.declared.Fault.TheVariants as fault
-use Rattle.vault_types.specs.Shelf.{Blobs}
 use Rattle.vault_traits.specs.declared.names.Refused.{Refused}
 use Rattle.vault_traits.specs.declared.names.Refused.TheVariants as refused
 use Rattle.vault_traits.specs.Counts.{Rose}
@@ -16,7 +13,8 @@ abbrev pub fault_of : ℕ → Refused → Fault
 fault_of faults refused.Failed = fault.StoreFault faults
 fault_of faults refused.Memory = fault.Memory
 
--- a fault of a call: the shelf failed in it, and the number is the count then; no memory; or damage that was shown
+-- a fault of a call: the shelf failed in it, and the number is the count then; no memory; or damage
+-- that was shown
 abbrev pub IsCause : ℕ → ℕ → (Kind → ℕ → Why → Type 0) → Fault → Type 0
 IsCause before now IsShown (fault.StoreFault n) = (n ≡ now) × Rose before now
 IsCause before now IsShown (fault.Damaged kind number why) = IsShown kind number why
@@ -28,7 +26,8 @@ abbrev pub IsUndamaged : Kind → ℕ → Why → Type 0
 IsUndamaged kind number why = ⊥
 
 -- the count of the shelf's faults hasn't fallen, and each fault has its cause
-pub record HasCauses {T : Type 0} (before now : ℕ) (IsShown : Kind → ℕ → Why → Type 0) (result : Result T Fault) : Type 0 where
+pub record HasCauses {T : Type 0} (before now : ℕ) (IsShown : Kind → ℕ → Why → Type 0)
+    (result : Result T Fault) : Type 0 where
   pub later : before ≤ now
   pub each : IfErr result (IsCause before now IsShown)
 

@@ -23,7 +23,10 @@ kind_back Floor = refl
 
 -- a name is stored as a pair of numbers
 abbrev pub coded_name : Coded Name
-coded_name = code_by (ℕ × ℕ) (coded× coded_ℕ coded_ℕ) (λ n. (kind_rank n.kind, n.number)) (λ p. record { kind = kind_at p.0; number = p.1 }) (λ n i. record { kind = kind_back n.kind i; number = n.number })
+coded_name =
+    code_by (ℕ × ℕ) (coded× coded_ℕ coded_ℕ) (λ n. (kind_rank n.kind, n.number))
+    (λ p. record { kind = kind_at p.0; number = p.1 })
+    (λ n i. record { kind = kind_back n.kind i; number = n.number })
 
 abbrev pub coded_blobs : Coded Blobs
 coded_blobs = map.code coded_name (coded_list coded_ℕ)
@@ -42,7 +45,10 @@ step_back (Wrote name bytes) = refl
 step_back (Settled m) = refl
 
 abbrev pub coded_step : Coded ShelfStep
-coded_step = code_by ((Name × Option (List ℕ)) ⊎ Blobs) (coded⊎ (coded× coded_name (coded_option (coded_list coded_ℕ))) coded_blobs) step_parts step_of step_back
+coded_step =
+    code_by ((Name × Option (List ℕ)) ⊎ Blobs)
+    (coded⊎ (coded× coded_name (coded_option (coded_list coded_ℕ))) coded_blobs) step_parts step_of
+    step_back
 
 abbrev pub coded_history : Coded History
 coded_history = coded_list coded_step

@@ -30,7 +30,8 @@ pub record HasFailed {T : Type 0} (before now : ℕ) (result : Result T Failed) 
   pub later : before ≤ now
   pub failed : OnErr result (Rose before now)
 
--- each number lies above the one before it, the first above the count before, and the last not above the count now
+-- each number lies above the one before it, the first above the count before, and the last not
+-- above the count now
 abbrev pub RiseFrom : ℕ → List ℕ → ℕ → Type 0
 RiseFrom before [] now = before ≤ now
 RiseFrom before (n ∷ ns) now = Rose before n × RiseFrom n ns now

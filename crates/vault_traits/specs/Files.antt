@@ -2,8 +2,10 @@
 use Rattle.std.specs.Prelude.{◌≡◌, ◌≢◌, ◌⊎◌, ◌≤◌, ◌<◌, ℕ, List, [], length, Option, None, Some, IsSome, IfSome}
 use Rattle.vault_traits.specs.Told.{Files, SourceTold, SinkTold}
 
--- what a name has becomes something, and each other name keeps its bytes; who tells goes on telling, who doesn't goes on so
-abbrev pub ChangesOnly : Option Files → Option Files → List ℕ → (Option (List ℕ) → Option (List ℕ) → Type 0) → Type 0
+-- what a name has becomes something, and each other name keeps its bytes; who tells goes on
+-- telling, who doesn't goes on so
+abbrev pub ChangesOnly : Option Files → Option Files → List ℕ → (Option (List ℕ) → Option (List ℕ) → Type 0)
+    → Type 0
 ChangesOnly None None name Becomes = Unit {0}
 ChangesOnly None (Some new) name Becomes = ⊥
 ChangesOnly (Some old) None name Becomes = ⊥
@@ -45,4 +47,5 @@ IsThere files name = IfSome files (λ f. IsSome (f name))
 
 -- a writer has failed only where it has taken as many bytes as it has room for, if its room is told
 abbrev pub FailsOnlyFull : Option ℕ → SinkTold → Type 0
-FailsOnlyFull room writer = IfSome room (λ most. 0 < writer.faults → IfSome writer.taken (λ taken. most ≤ length taken))
+FailsOnlyFull room writer =
+    IfSome room (λ most. 0 < writer.faults → IfSome writer.taken (λ taken. most ≤ length taken))

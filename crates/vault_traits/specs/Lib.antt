@@ -1,6 +1,7 @@
 pub mod Counts
 pub mod Crash
 pub mod Told
+pub mod CutOff
 pub mod Shelf
 pub mod Files
 pub mod Codes

@@ -34,12 +34,14 @@ history_settled None told = None
 history_settled (Some m) told = option_map (λ h. Settled m ∷ h) told
 
 -- a write that was done
-pub record IsWritten (before after : Option Blobs) (past now : Option History) (name : Name) (bytes : Option (List ℕ)) : Type 0 where
+pub record IsWritten (before after : Option Blobs) (past now : Option History) (name : Name)
+    (bytes : Option (List ℕ)) : Type 0 where
   pub blobs : after ≡ blobs_with before name bytes
   pub history : now ≡ history_with past name bytes
 
 -- a write that failed: the name has its old or its new content, and a crash may carry the write out
-pub record MayBeWritten (before after : Option Blobs) (past now : Option History) (name : Name) (bytes : Option (List ℕ)) : Type 0 where
+pub record MayBeWritten (before after : Option Blobs) (past now : Option History) (name : Name)
+    (bytes : Option (List ℕ)) : Type 0 where
   pub blobs : (after ≡ before) ⊎ (after ≡ blobs_with before name bytes)
   pub history : (now ≡ past) ⊎ (now ≡ history_with past name bytes)
 

@@ -12,8 +12,10 @@ mod names;
 mod places;
 mod shelf;
 mod streams;
+mod writing;
 
 pub use names::{Failed, Refused};
 pub use places::Places;
 pub use shelf::Shelf;
 pub use streams::{Sink, Source};
+pub use writing::write_all;

@@ -32,15 +32,18 @@ pub trait Places {
     fn close_source(&mut self, reader: Self::Reader)
         ensures files { AreKept (told self.old).files (told self.new).files }
         ensures faults { (told self.new).faults ≡ (told self.old).faults }
-        ensures read_faults { (told self.new).read_faults ≡ added (told self.old).read_faults (Self.Reader.told reader).faults }
+        ensures read_faults { (told self.new).read_faults
+            ≡ added (told self.old).read_faults (Self.Reader.told reader).faults }
         ensures write_faults { (told self.new).write_faults ≡ (told self.old).write_faults };
 
     /// Makes the name empty, and gives a writer for it that has taken nothing and not failed. After an `Err` the name has
     /// its bytes, or is empty.
     fn open_sink(&mut self, alloc: Global, name: &str) -> Result<Self::Writer, Refused>
         ensures writer { IfOk result (λ w. IsNewWriter (told self.old).files (Self.Writer.told w)) }
-        ensures ok { OnOk result (ChangesOnly (told self.old).files (told self.new).files name.now IsEmptied) }
-        ensures err { OnErr result (ChangesOnly (told self.old).files (told self.new).files name.now MayBeEmptied) }
+        ensures ok { OnOk result
+            (ChangesOnly (told self.old).files (told self.new).files name.now IsEmptied) }
+        ensures err { OnErr result
+            (ChangesOnly (told self.old).files (told self.new).files name.now MayBeEmptied) }
         ensures read_faults { (told self.new).read_faults ≡ (told self.old).read_faults }
         ensures write_faults { (told self.new).write_faults ≡ (told self.old).write_faults }
         ensures cause { HasCause (told self.old).faults (told self.new).faults result };
@@ -50,10 +53,12 @@ pub trait Places {
     fn close_sink(&mut self, name: &str, writer: Self::Writer)
         requires { IsThere (told self.old).files name.now }
         ensures room { FailsOnlyFull room (Self.Writer.told writer) }
-        ensures files { ChangesOnly (told self.old).files (told self.new).files name.now (IsWhatWasTaken (Self.Writer.told writer).taken) }
+        ensures files { ChangesOnly (told self.old).files (told self.new).files name.now
+            (IsWhatWasTaken (Self.Writer.told writer).taken) }
         ensures faults { (told self.new).faults ≡ (told self.old).faults }
         ensures read_faults { (told self.new).read_faults ≡ (told self.old).read_faults }
-        ensures write_faults { (told self.new).write_faults ≡ added (told self.old).write_faults (Self.Writer.told writer).faults };
+        ensures write_faults { (told self.new).write_faults
+            ≡ added (told self.old).write_faults (Self.Writer.told writer).faults };
 
     /// How many openings failed.
     fn faults(&self) -> u64

@@ -22,7 +22,8 @@ pub trait Shelf {
 
     /// What is under a name. It counts a get of a payload. After an `Err` nothing has changed.
     fn get(&mut self, alloc: Global, name: Name) -> Result<Option<Vec<u8>>, Refused>
-        ensures found { IfOk result (λ found. IfSome (told self.old).blobs (λ m. option_map (λ v. v.items) found ≡ map.get m name)) }
+        ensures found { IfOk result
+            (λ found. IfSome (told self.old).blobs (λ m. option_map (λ v. v.items) found ≡ map.get m name)) }
         ensures kept { IsAsBefore (told self.old) (told self.new) }
         ensures gets { (told self.new).gets ≡ gets_after name.kind (told self.old).gets }
         ensures cause { HasCause (told self.old).faults (told self.new).faults result };
@@ -31,24 +32,33 @@ pub trait Shelf {
     /// others stay; after `Memory` nothing has changed.
     fn put(&mut self, alloc: Global, name: Name, bytes: &[u8]) -> Result<(), Refused>
         requires { name.kind ≢ Kind.Floor }
-        ensures ok { OnOk result (IsWritten (told self.old).blobs (told self.new).blobs (told self.old).history (told self.new).history name (Some bytes.now)) }
-        ensures at_most { MayBeWritten (told self.old).blobs (told self.new).blobs (told self.old).history (told self.new).history name (Some bytes.now) }
+        ensures ok { OnOk result
+            (IsWritten (told self.old).blobs (told self.new).blobs (told self.old).history
+            (told self.new).history name (Some bytes.now)) }
+        ensures at_most { MayBeWritten (told self.old).blobs (told self.new).blobs (told self.old).history
+            (told self.new).history name (Some bytes.now) }
         ensures memory { IsErrOf result Refused.Memory → IsAsBefore (told self.old) (told self.new) }
         ensures gets { (told self.new).gets ≡ (told self.old).gets }
         ensures cause { HasCause (told self.old).faults (told self.new).faults result };
 
     /// Sets the floor of a set. After an `Err` it is the old or the new one. It takes no memory.
     fn put_floor(&mut self, set: Set, bytes: &[u8; 28]) -> Result<(), Failed>
-        ensures ok { OnOk result (IsWritten (told self.old).blobs (told self.new).blobs (told self.old).history (told self.new).history (floor_name set) (Some bytes.now)) }
-        ensures at_most { MayBeWritten (told self.old).blobs (told self.new).blobs (told self.old).history (told self.new).history (floor_name set) (Some bytes.now) }
+        ensures ok { OnOk result
+            (IsWritten (told self.old).blobs (told self.new).blobs (told self.old).history
+            (told self.new).history (floor_name set) (Some bytes.now)) }
+        ensures at_most { MayBeWritten (told self.old).blobs (told self.new).blobs (told self.old).history
+            (told self.new).history (floor_name set) (Some bytes.now) }
         ensures gets { (told self.new).gets ≡ (told self.old).gets }
         ensures cause { HasFailed (told self.old).faults (told self.new).faults result };
 
     /// Takes a name out; one that is not there needs nothing. After an `Err` it has its old content or none. It takes
     /// no memory.
     fn remove(&mut self, name: Name) -> Result<(), Failed>
-        ensures ok { OnOk result (IsWritten (told self.old).blobs (told self.new).blobs (told self.old).history (told self.new).history name None) }
-        ensures at_most { MayBeWritten (told self.old).blobs (told self.new).blobs (told self.old).history (told self.new).history name None }
+        ensures ok { OnOk result
+            (IsWritten (told self.old).blobs (told self.new).blobs (told self.old).history
+            (told self.new).history name None) }
+        ensures at_most { MayBeWritten (told self.old).blobs (told self.new).blobs (told self.old).history
+            (told self.new).history name None }
         ensures gets { (told self.new).gets ≡ (told self.old).gets }
         ensures cause { HasFailed (told self.old).faults (told self.new).faults result };
 
@@ -63,7 +73,8 @@ pub trait Shelf {
     /// memory.
     fn settle(&mut self) -> Result<(), Failed>
         ensures blobs { (told self.new).blobs ≡ (told self.old).blobs }
-        ensures ok { OnOk result ((told self.new).history ≡ history_settled (told self.old).blobs (told self.old).history) }
+        ensures ok { OnOk result
+            ((told self.new).history ≡ history_settled (told self.old).blobs (told self.old).history) }
         ensures failed { OnErr result ((told self.new).history ≡ (told self.old).history) }
         ensures gets { (told self.new).gets ≡ (told self.old).gets }
         ensures cause { HasFailed (told self.old).faults (told self.new).faults result };

@@ -35,7 +35,8 @@ pub trait Sink {
     fn write(&mut self, piece: &[u8]) -> Result<usize, Failed>
         requires { 0 < length piece.now }
         ensures some { IfOk result (λ n. (0 < n) × (n ≤ length piece.now)) }
-        ensures taken { IfOk result (λ n. Takes (told self.old).taken (told self.new).taken (take n piece.now)) }
+        ensures taken { IfOk result
+            (λ n. Takes (told self.old).taken (told self.new).taken (take n piece.now)) }
         ensures err { OnErr result ((told self.new).taken ≡ (told self.old).taken) }
         ensures cause { HasFailed (told self.old).faults (told self.new).faults result };
 

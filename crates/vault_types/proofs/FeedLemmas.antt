@@ -1,10 +1,12 @@
 -- How a stream that comes in pieces is cut, by any rule whose chunks stay when bytes follow.
-use Rattle.std.proofs.Common.{◌≡◌, ℕ, zero, suc, ◌+◌, ◌-◌, ◌≤◌, List, [], ◌∷◌, ◌++◌, length, take, drop, refl, sym, ap, ◌∙◌, arith, length-append, length-drop, append_assoc, append-nil, subst, Option, Some, None}
+use Rattle.std.proofs.Common.{◌≡◌, ℕ, zero, suc, ◌-◌, ◌≤◌, List, [], ◌∷◌, ◌++◌, length, take, drop, refl, sym, ap, ◌∙◌, arith, length-drop, append_assoc, append-nil, subst, Option, Some, None}
 use Rattle.std.proofs.lemmas.List.{drop-append-le, take-append-drop, take_all}
 use Rattle.std.proofs.Math.Seq.{take-append_seam, drop-append_seam}
 use Rattle.vault_types.specs.declared.Cutting.{Cutting}
 use Rattle.vault_types.specs.Lists.{rest}
 use Rattle.vault_types.specs.Cuts.{settled_len, settled, unsettled, Chunker, HasCut}
+use Rattle.vault_types.specs.Feeds.{MakesChunk, HoldsPiece}
+use Rattle.vault_types.proofs.CutLemmas.{settled_len-stable}
 use Rattle.vault_types.proofs.PartsLemmas.{IsStable, parts_step, parts_end, rest_step, rest_end, parts-append}
 
 -- what is left of a list with more behind it is what is left of what was left of it with the more behind it
@@ -72,22 +74,22 @@ joined held rest chunk taken e =
 
 -- a chunk came whole, with so many bytes of what is still to come
 pub way-on : (k m n : Chunker) (before out : List (List ℕ)) (piece rest chunk : List ℕ) (taken : ℕ)
-    → IsOnWay k m before out piece rest → IsStable (settled_len m.cutting) → n.cutting ≡ m.cutting → chunk ≡ m.held ++ take taken rest
-    → settled_len m.cutting chunk ≡ Some (length chunk) → n.held ≡ [] → IsOnWay k n before (out ++ chunk ∷ []) piece (drop taken rest)
-way-on k m n before out piece rest chunk taken way rule same bytes_are fixed_is none_held =
-    let stable : IsStable (settled_len k.cutting) = (let P : Cutting → Type 0 = λ d. IsStable (settled_len d) in subst P way.cutting rule) in
-    let fixed : settled_len k.cutting chunk ≡ Some (length chunk) = ap (λ c. settled_len c chunk) (sym way.cutting) ∙ fixed_is in
-    let bytes : m.held ++ rest ≡ chunk ++ drop taken rest = joined m.held rest chunk taken bytes_are in
+    → IsOnWay k m before out piece rest → MakesChunk m n rest chunk taken
+    → IsOnWay k n before (out ++ chunk ∷ []) piece (drop taken rest)
+way-on k m n before out piece rest chunk taken way makes =
+    let stable : IsStable (settled_len k.cutting) = (let P : Cutting → Type 0 = λ d. IsStable (settled_len d) in subst P way.cutting (settled_len-stable m.cutting makes.cuttable)) in
+    let fixed : settled_len k.cutting chunk ≡ Some (length chunk) = ap (λ c. settled_len c chunk) (sym way.cutting) ∙ makes.fixed in
+    let bytes : m.held ++ rest ≡ chunk ++ drop taken rest = joined m.held rest chunk taken makes.bytes in
     record {
-      cutting = same ∙ way.cutting;
+      cutting = makes.cutting ∙ way.cutting;
       chunks =
           append_assoc out (chunk ∷ []) (settled (n.held ++ drop taken rest) k.cutting)
-          ∙ ap (λ h. out ++ chunk ∷ settled (h ++ drop taken rest) k.cutting) none_held
+          ∙ ap (λ h. out ++ chunk ∷ settled (h ++ drop taken rest) k.cutting) makes.held
           ∙ ap (λ cs. out ++ cs) (sym (settled_whole k.cutting stable chunk (drop taken rest) fixed))
           ∙ ap (λ b. out ++ settled b k.cutting) (sym bytes)
           ∙ way.chunks;
       held =
-          ap (λ h. unsettled (h ++ drop taken rest) k.cutting) none_held
+          ap (λ h. unsettled (h ++ drop taken rest) k.cutting) makes.held
           ∙ sym (unsettled_whole k.cutting stable chunk (drop taken rest) fixed)
           ∙ ap (λ b. unsettled b k.cutting) (sym bytes)
           ∙ way.held;
@@ -102,21 +104,20 @@ pub record IsFed (k m : Chunker) (before out : List (List ℕ)) (piece : List �
 
 -- what is still to come is held, and makes no chunk yet
 pub way-over : (k m n : Chunker) (before out : List (List ℕ)) (piece rest : List ℕ)
-    → IsOnWay k m before out piece rest → IsStable (settled_len m.cutting) → n.cutting ≡ m.cutting → n.held ≡ m.held ++ rest
-    → settled_len n.cutting n.held ≡ None → IsFed k n before out piece
-way-over k m n before out piece rest way rule now_same held_is none_is =
-    let same : n.cutting ≡ k.cutting = now_same ∙ way.cutting in
-    let stable : IsStable (settled_len k.cutting) = (let P : Cutting → Type 0 = λ d. IsStable (settled_len d) in subst P way.cutting rule) in
-    let none : settled_len k.cutting n.held ≡ None = ap (λ c. settled_len c n.held) (sym same) ∙ none_is in
+    → IsOnWay k m before out piece rest → HoldsPiece m n rest → IsFed k n before out piece
+way-over k m n before out piece rest way holds =
+    let same : n.cutting ≡ k.cutting = holds.cutting ∙ way.cutting in
+    let stable : IsStable (settled_len k.cutting) = (let P : Cutting → Type 0 = λ d. IsStable (settled_len d) in subst P way.cutting (settled_len-stable m.cutting holds.cuttable)) in
+    let none : settled_len k.cutting n.held ≡ None = ap (λ c. settled_len c n.held) (sym same) ∙ holds.none in
     let no_parts : settled n.held k.cutting ≡ [] = parts_end (settled_len k.cutting) n.held none in
     let all_left : unsettled n.held k.cutting ≡ n.held = rest_end (settled_len k.cutting) n.held none in
-    let held : n.held ≡ unsettled (k.held ++ piece) k.cutting = sym all_left ∙ ap (λ h. unsettled h k.cutting) held_is ∙ way.held in
+    let held : n.held ≡ unsettled (k.held ++ piece) k.cutting = sym all_left ∙ ap (λ h. unsettled h k.cutting) holds.held ∙ way.held in
     record {
       cutting = same;
       chunks =
           sym (append-nil out)
           ∙ ap (λ cs. out ++ cs) (sym no_parts)
-          ∙ ap (λ h. out ++ settled h k.cutting) held_is
+          ∙ ap (λ h. out ++ settled h k.cutting) holds.held
           ∙ way.chunks;
       held = held;
       stream = cut_more k n stable piece same held;

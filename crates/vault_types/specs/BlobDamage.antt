@@ -19,7 +19,8 @@ IsNoTable id bytes = (t : Table) → SpellsTable id bytes t → ⊥
 -- the table of this id is not there, or is something else
 abbrev pub IsTableWhy : Option Blobs → ℕ → Why → Type 0
 IsTableWhy told id why.Absent = Has told (table_name id) None
-IsTableWhy told id why.Spelling = (bytes : List ℕ) × Has told (table_name id) (Some bytes) × IsNoTable id bytes
+IsTableWhy told id why.Spelling =
+    (bytes : List ℕ) × Has told (table_name id) (Some bytes) × IsNoTable id bytes
 IsTableWhy told id other = ⊥
 
 abbrev pub IsTableDamage : Option Blobs → ℕ → Kind → ℕ → Why → Type 0
@@ -28,7 +29,8 @@ IsTableDamage told id other number w = ⊥
 
 -- what is wrong with the bytes as a payload of this table: another length, or another sum
 abbrev pub IsWrongPayload : Table → List ℕ → Why → Type 0
-IsWrongPayload t bytes (why.Length want found) = (want ≡ payload_len t.rows) × (found ≡ length bytes) × (found ≢ want)
+IsWrongPayload t bytes (why.Length want found) =
+    (want ≡ payload_len t.rows) × (found ≡ length bytes) × (found ≢ want)
 IsWrongPayload t bytes (why.Sum want found) =
     (length bytes ≡ payload_len t.rows) × (want ≡ t.payload_sum) × (found ≡ fp bytes) × (found ≢ want)
 IsWrongPayload t bytes other = ⊥
@@ -36,7 +38,8 @@ IsWrongPayload t bytes other = ⊥
 -- the payload of this table is not there, or is wrong
 abbrev pub IsPayloadWhy : Option Blobs → Table → Why → Type 0
 IsPayloadWhy told t why.Absent = Has told (payload_name t.id) None
-IsPayloadWhy told t other = (bytes : List ℕ) × Has told (payload_name t.id) (Some bytes) × IsWrongPayload t bytes other
+IsPayloadWhy told t other =
+    (bytes : List ℕ) × Has told (payload_name t.id) (Some bytes) × IsWrongPayload t bytes other
 
 abbrev pub IsPayloadDamage : Option Blobs → Table → Kind → ℕ → Why → Type 0
 IsPayloadDamage told t kind.Payload number w = (number ≡ t.id) × IsPayloadWhy told t w
@@ -63,7 +66,8 @@ IsNoFloor s bytes = (floor : ℕ) → SpellsFloor s bytes floor → ⊥
 -- the recipe is not there, or is something else
 abbrev pub IsRecipeWhy : Option Blobs → ℕ → ℕ → Why → Type 0
 IsRecipeWhy told s v why.Absent = Has told (recipe_name s v) None
-IsRecipeWhy told s v why.Spelling = (bytes : List ℕ) × Has told (recipe_name s v) (Some bytes) × IsNoRecipe s v bytes
+IsRecipeWhy told s v why.Spelling =
+    (bytes : List ℕ) × Has told (recipe_name s v) (Some bytes) × IsNoRecipe s v bytes
 IsRecipeWhy told s v other = ⊥
 
 abbrev pub IsRecipeDamage : Option Blobs → ℕ → ℕ → Kind → ℕ → Why → Type 0

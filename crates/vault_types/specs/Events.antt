@@ -76,7 +76,8 @@ pub record IsFloorName (S : State) (n : Name) : Type 0 where
 abbrev pub IsNeeded : State → List Container → Name → Type 0
 IsNeeded S cs n = IsContainerName (S.containers ++ cs) n ⊎ (IsRecipeName S n ⊎ IsFloorName S n)
 
--- the recipe that a mending takes out is that of the next version of a set: of the failed line's, or of the one given
+-- the recipe that a mending takes out is that of the next version of a set: of the failed line's,
+-- or of the one given
 abbrev pub mended_set : Pending → ℕ → ℕ
 mended_set pending.Not s = s
 mended_set pending.Opened s = s
@@ -85,25 +86,56 @@ mended_set (pending.FailedFor m) s = m
 -- events. The strays after an event are given: Held says which names must be among them
 
 abbrev pub after_mend : List Name → Core → Core
-after_mend strays K = record { state = K.state; other = None; pins = K.pins; strays = strays; job = K.job; pending = pending.Not }
+after_mend strays K =
+    record {
+      state = K.state;
+      other = None;
+      pins = K.pins;
+      strays = strays;
+      job = K.job;
+      pending = pending.Not;
+    }
 
 -- a job of the set begins
 abbrev pub after_begin : ℕ → List Name → Core → Core
-after_begin s strays K = record { state = K.state; other = None; pins = K.pins; strays = strays; job = Some (record { set = s; containers = [] }); pending = pending.Not }
+after_begin s strays K =
+    record {
+      state = K.state;
+      other = None;
+      pins = K.pins;
+      strays = strays;
+      job = Some (record { set = s; containers = [] });
+      pending = pending.Not;
+    }
 
 -- the job has put a container; its names are strays until the commit
 abbrev pub put_in : Container → Job → Job
 put_in c job = record { set = job.set; containers = job.containers ++ c ∷ [] }
 
 abbrev pub after_put : Container → List Name → Core → Core
-after_put c strays K = record { state = K.state; other = K.other; pins = K.pins; strays = strays; job = option_map (put_in c) K.job; pending = K.pending }
+after_put c strays K =
+    record {
+      state = K.state;
+      other = K.other;
+      pins = K.pins;
+      strays = strays;
+      job = option_map (put_in c) K.job;
+      pending = K.pending;
+    }
 
--- what a recipe says of its version. A recipe without a whole has the sum of the bytes that its rows have in these containers
+-- what a recipe says of its version. A recipe without a whole has the sum of the bytes that its
+-- rows have in these containers
 abbrev pub version_in_recipe : List Container → Recipe → KeptVersion
-version_in_recipe containers r = record { next = r.next; rows = r.rows; sparse = r.sparse; sum = unwrap_or r.whole (fp (row_bytes containers r.rows)) }
+version_in_recipe containers r =
+    record {
+      next = r.next;
+      rows = r.rows;
+      sparse = r.sparse;
+      sum = unwrap_or r.whole (fp (row_bytes containers r.rows));
+    }
 
--- a recipe may be committed by the open job: it is the next of its set, its rows are in named containers or in those of
--- the job, and it names each of the job's
+-- a recipe may be committed by the open job: it is the next of its set, its rows are in named
+-- containers or in those of the job, and it names each of the job's
 pub record CanCommit (K : Core) (job : Job) (r : Recipe) : Type 0 where
   pub open_job : K.job ≡ Some job
   pub rules : IsRecipe r
@@ -119,22 +151,52 @@ abbrev pub committed : KeptVersion → Job → State → State
 committed k job S = with_new_version S job.set k job.containers
 
 abbrev pub after_commit : KeptVersion → Job → List Name → Core → Core
-after_commit k job strays K = record { state = committed k job K.state; other = None; pins = K.pins; strays = strays; job = None; pending = K.pending }
+after_commit k job strays K =
+    record {
+      state = committed k job K.state;
+      other = None;
+      pins = K.pins;
+      strays = strays;
+      job = None;
+      pending = K.pending;
+    }
 
 -- what a commit that failed may have left
 abbrev pub commit_change : KeptVersion → Job → Recipe → State → Change
-commit_change k job r S = record { name = recipe_name job.set (latest_of S job.set + 1); bytes = recipe_bytes r; state = committed k job S }
+commit_change k job r S =
+    record {
+      name = recipe_name job.set (latest_of S job.set + 1);
+      bytes = recipe_bytes r;
+      state = committed k job S;
+    }
 
 -- the job is over, and its names stay strays
 abbrev pub after_abort : Core → Core
-after_abort K = record { state = K.state; other = K.other; pins = K.pins; strays = K.strays; job = None; pending = K.pending }
+after_abort K =
+    record {
+      state = K.state;
+      other = K.other;
+      pins = K.pins;
+      strays = K.strays;
+      job = None;
+      pending = K.pending;
+    }
 
 abbrev pub after_delete : ℕ → ℕ → List Name → Core → Core
-after_delete s n strays K = record { state = delete K.state s n; other = None; pins = K.pins; strays = strays; job = K.job; pending = pending.Not }
+after_delete s n strays K =
+    record {
+      state = delete K.state s n;
+      other = None;
+      pins = K.pins;
+      strays = strays;
+      job = K.job;
+      pending = pending.Not;
+    }
 
 -- what a deletion that failed may have left
 abbrev pub delete_change : ℕ → ℕ → State → Change
-delete_change s n S = record { name = floor_name s; bytes = floor_bytes s (max (floor_of S s) (n + 1)); state = delete S s n }
+delete_change s n S =
+    record { name = floor_name s; bytes = floor_bytes s (max (floor_of S s) (n + 1)); state = delete S s n }
 
 -- the containers of these ids, each once
 abbrev pub containers_of : List Container → List ℕ → List Container
@@ -142,10 +204,24 @@ containers_of containers ids = filter (λ c. has c.table.id ids) containers
 
 -- a pin with the containers of a version's rows is added
 abbrev pub pin_of : ℕ → ℕ → ℕ → State → KeptVersion → Pin
-pin_of number s v S k = record { number = number; set = s; version = v; containers = containers_of S.containers (map (λ r. r.id) k.rows) }
+pin_of number s v S k =
+    record {
+      number = number;
+      set = s;
+      version = v;
+      containers = containers_of S.containers (map (λ r. r.id) k.rows);
+    }
 
 abbrev pub with_pins : List Pin → List Name → Core → Core
-with_pins pins strays K = record { state = K.state; other = K.other; pins = pins; strays = strays; job = K.job; pending = K.pending }
+with_pins pins strays K =
+    record {
+      state = K.state;
+      other = K.other;
+      pins = pins;
+      strays = strays;
+      job = K.job;
+      pending = K.pending;
+    }
 
 abbrev pub after_pin : ℕ → ℕ → ℕ → KeptVersion → Core → Core
 after_pin number s v k K = with_pins (K.pins ++ pin_of number s v K.state k ∷ []) K.strays K
@@ -159,7 +235,8 @@ after_release number strays K = with_pins (pins_without number K.pins) strays K
 
 -- a refused event leaves the state and the pins; a job may have ended, and a write may be half done
 abbrev pub after_refused : Option Change → Option Job → List Name → Pending → Core → Core
-after_refused other job strays pending K = record { state = K.state; other = other; pins = K.pins; strays = strays; job = job; pending = pending }
+after_refused other job strays pending K =
+    record { state = K.state; other = other; pins = K.pins; strays = strays; job = job; pending = pending }
 
 -- what the shelf holds between two events
 
@@ -179,19 +256,21 @@ pub record IsChange (S : State) (s : ℕ) (h : Change) : Type 0 where
   pub in_range : s < length S.datasets
   pub kind : ((h.name ≡ recipe_name s (latest_of S s + 1)) × (floor_of h.state s ≡ floor_of S s))
       ⊎ ((h.name ≡ floor_name s) × (IsNeeded h.state [] (recipe_name s (latest_of S s + 1)) → ⊥))
-  pub containers : (c : Container) → Contains h.state.containers c → Contains S.containers c ⊎ (next_of S ≤ c.table.id)
+  pub containers : (c : Container) → Contains h.state.containers c
+      → Contains S.containers c ⊎ (next_of S ≤ c.table.id)
   pub sets : length h.state.datasets ≡ length S.datasets
   pub valid : IsValid h.state
 
--- the state is valid, the job numbers its containers from the first free id on, what a pin lists is as the state has it,
--- and a change is that of the set whose write failed
+-- the state is valid, the job numbers its containers from the first free id on, what a pin lists is
+-- as the state has it, and a change is that of the set whose write failed
 pub record IsCore (K : Core) : Type 0 where
   pub state : IsValid K.state
   pub job : map id_of (put_by K.job) ≡ range_with_len (next_of K.state) (length (put_by K.job))
   pub tables : AllByRecursion (λ c. IsTable c.table) (put_by K.job)
   pub payloads : AllByRecursion HasPayload (put_by K.job)
   pub job_set : IfSome K.job (λ j. j.set < length K.state.datasets)
-  pub pins : (c : Container) → Contains (pinned_containers K.pins) c → (c.table.id < next_of K.state) × IfSome (container_in K.state.containers c.table.id) (λ d. d ≡ c)
+  pub pins : (c : Container) → Contains (pinned_containers K.pins) c
+      → (c.table.id < next_of K.state) × IfSome (container_in K.state.containers c.table.id) (λ d. d ≡ c)
   pub numbers : IsDistinct nat_eq (map (λ p. p.number) K.pins)
   pub alone : IsSome K.job → K.other ≡ None
   pub failed : (s : ℕ) → K.pending ≡ pending.FailedFor s → s < length K.state.datasets
@@ -200,6 +279,8 @@ pub record IsCore (K : Core) : Type 0 where
 -- the shelf holds what the state, the pins and the open job need, and strays
 pub record Held (shelf : Blobs) (K : Core) : Type 0 where
   pub near : IsNear K.state K.other shelf
-  pub containers : (c : Container) → Contains (pinned_containers K.pins ++ put_by K.job) c → HasContainer shelf c
-  pub others : (n : Name) → IsSome (fin.get shelf n) → IsNeeded K.state (pinned_containers K.pins) n ⊎ Contains K.strays n
+  pub containers : (c : Container) → Contains (pinned_containers K.pins ++ put_by K.job) c
+      → HasContainer shelf c
+  pub others : (n : Name) → IsSome (fin.get shelf n)
+      → IsNeeded K.state (pinned_containers K.pins) n ⊎ Contains K.strays n
   pub apart : (n : Name) → Contains K.strays n → IsNeeded K.state (pinned_containers K.pins) n → ⊥

@@ -25,5 +25,6 @@ pub mod Marks
 pub mod Standard
 pub mod RecipeForms
 pub mod JobRanges
+pub mod Feeds
 pub mod BlobDamage
 pub mod FirstDamage

@@ -6,7 +6,9 @@ use Rattle.vault_types.specs.Shelf.{Blobs, blob_at, recipe_name}
 
 -- the recipe of each version that the state keeps is as it was
 abbrev pub KeepsRecipes : State → Option Blobs → Option Blobs → Type 0
-KeepsRecipes S old new = (s v : ℕ) (k : KeptVersion) → s < length S.datasets → version_of S s v ≡ Some k → blob_at new (recipe_name s v) ≡ blob_at old (recipe_name s v)
+KeepsRecipes S old new =
+    (s v : ℕ) (k : KeptVersion) → s < length S.datasets → version_of S s v ≡ Some k
+    → blob_at new (recipe_name s v) ≡ blob_at old (recipe_name s v)
 
 -- the recipe of the version is spelled in the second format
 abbrev pub IsSecond : Option Blobs → ℕ → ℕ → KeptVersion → Type 0

@@ -39,7 +39,8 @@ after sources S line answer = if is_refused answer then S else after_line source
 abbrev pub state_after : Sources → State → List Line → List Answer → State
 state_after sources S [] answers = S
 state_after sources S (line ∷ lines) [] = S
-state_after sources S (line ∷ lines) (answer ∷ answers) = state_after sources (after sources S line answer) lines answers
+state_after sources S (line ∷ lines) (answer ∷ answers) =
+    state_after sources (after sources S line answer) lines answers
 
 -- what a restore line that was done writes, and under which name
 abbrev pub written_by : State → Line → List (List ℕ × List ℕ)
@@ -52,7 +53,8 @@ abbrev pub outputs : Sources → State → List Line → List Answer → List (L
 outputs sources S [] answers = []
 outputs sources S (line ∷ lines) [] = []
 outputs sources S (line ∷ lines) (answer ∷ answers) =
-    (if is_refused answer then [] else written_by S line) ++ outputs sources (after sources S line answer) lines answers
+    (if is_refused answer then [] else written_by S line)
+    ++ outputs sources (after sources S line answer) lines answers
 
 -- the container ids of a version's rows
 abbrev pub row_ids : State → ℕ → ℕ → List ℕ
@@ -62,7 +64,8 @@ row_ids S s v = option_map_or (λ k. map (λ r. r.id) k.rows) (version_of S s v)
 abbrev pub IsDone : Sources → State → Line → Answer → Type 0
 IsDone sources S (Backup s name config) answer = answer ≡ stored S s (sources name) config
 IsDone sources S (Restore s v name cache) answer =
-    IsTrue (is_kept S s v) × (n : ℕ) × IsLeast (requests (row_ids S s v)) cache n × (answer ≡ Restored s v (length (bytes_of S s v)) n)
+    IsTrue (is_kept S s v) × (n : ℕ) × IsLeast (requests (row_ids S s v)) cache n
+    × (answer ≡ Restored s v (length (bytes_of S s v)) n)
 IsDone sources S (Delete s n) answer = (n < latest_of S s) × (answer ≡ removed S s n)
 
 -- an answer that is no refusal is that of the line done
@@ -88,8 +91,8 @@ changes (Backup s name config) = true
 changes (Restore s v name cache) = false
 changes (Delete s n) = true
 
--- the states that a crash may leave: that after some of the lines, or that one with the next line done where it is
--- a backup or a deletion that answered a store fault
+-- the states that a crash may leave: that after some of the lines, or that one with the next line
+-- done where it is a backup or a deletion that answered a store fault
 abbrev pub Reaches : Sources → State → List Line → List Answer → State → Type 0
 Reaches sources S [] answers S' = S' ≡ S
 Reaches sources S (line ∷ lines) [] S' = S' ≡ S

@@ -31,7 +31,8 @@ fault_text (fault.NotKept s v floor latest) = codes "error 3: version not kept"
 fault_text (fault.ReadFault n) = codes "error 4: source failed"
 fault_text (fault.WriteFault n) = codes "error 5: sink failed"
 fault_text (fault.StoreFault n) = codes "error 6: store failed"
-fault_text (fault.Damaged kind number why) = codes "error 7: store damaged, " ++ kind_text kind ++ codes " " ++ decimal number
+fault_text (fault.Damaged kind number why) =
+    codes "error 7: store damaged, " ++ kind_text kind ++ codes " " ++ decimal number
 fault_text fault.Memory = codes "error 8: out of memory"
 fault_text (fault.TooMany limit) = codes "error 9: too many chunks"
 fault_text (fault.LastVersion s through latest) = codes "error 10: latest version"
@@ -62,14 +63,25 @@ status_of (fault.Full s latest next) = 14
 
 -- the report line of an answer; what `show` found has none
 abbrev pub answer_text : Answer → List ℕ
-answer_text (Stored s v chunks bytes containers written sparse) = text_line (codes "backup " ++ version_text s v ++ codes ": "
-    ++ decimal chunks ++ codes " chunks, " ++ decimal bytes ++ codes " bytes, " ++ decimal containers ++ codes " new containers, "
+answer_text (Stored s v chunks bytes containers written sparse) =
+    text_line (codes "backup " ++ version_text s v ++ codes ": "
+    ++ decimal chunks ++ codes " chunks, " ++ decimal bytes ++ codes " bytes, " ++ decimal containers
+    ++ codes " new containers, "
     ++ decimal written ++ codes " bytes written, " ++ decimal sparse ++ codes " sparse")
-answer_text (Restored s v bytes loads) = text_line (codes "restore " ++ version_text s v ++ codes ": " ++ decimal bytes ++ codes " bytes, " ++ decimal loads ++ codes " loads")
-answer_text (Removed s n floor reclaimed) = text_line (codes "delete " ++ version_text s n ++ codes ": floor " ++ decimal floor ++ codes ", " ++ decimal reclaimed ++ codes " containers reclaimed")
+answer_text (Restored s v bytes loads) =
+    text_line
+    (codes "restore " ++ version_text s v ++ codes ": " ++ decimal bytes ++ codes " bytes, "
+    ++ decimal loads ++ codes " loads")
+answer_text (Removed s n floor reclaimed) =
+    text_line
+    (codes "delete " ++ version_text s n ++ codes ": floor " ++ decimal floor ++ codes ", "
+    ++ decimal reclaimed ++ codes " containers reclaimed")
 answer_text (Shown s v rows) = []
 answer_text (Migrated recipes) = text_line (codes "migrate: " ++ decimal recipes ++ codes " recipes")
-answer_text (Scrubbed containers damaged) = text_line (codes "scrub: " ++ decimal containers ++ codes " containers, " ++ decimal damaged ++ codes " damaged")
+answer_text (Scrubbed containers damaged) =
+    text_line
+    (codes "scrub: " ++ decimal containers ++ codes " containers, " ++ decimal damaged
+    ++ codes " damaged")
 answer_text (Refused f) = fault_line f
 
 -- what `show` prints of a recipe
@@ -80,7 +92,10 @@ abbrev pub sparse_text : ℕ → List ℕ
 sparse_text c = text_line (codes "sparse " ++ decimal c)
 
 abbrev pub recipe_text : Recipe → List ℕ
-recipe_text r = text_line (codes "version " ++ version_text r.set r.version ++ codes " length " ++ decimal r.length ++ codes " next " ++ decimal r.next
+recipe_text r =
+    text_line
+    (codes "version " ++ version_text r.set r.version ++ codes " length " ++ decimal r.length
+    ++ codes " next " ++ decimal r.next
     ++ codes " chunks " ++ decimal (length r.rows) ++ codes " sparse " ++ decimal (length r.sparse))
     ++ flat_map row_text r.rows ++ flat_map sparse_text r.sparse
 

@@ -21,14 +21,17 @@ Settings = List (List ℕ × List ℕ)
 -- values
 
 abbrev pub is_value : List ℕ → Bool
-is_value v = nat_le 1 (length v) && nat_le (length v) 20 && list_all (λ b. is_ascii_digit b || is_ascii_lowercase b) v
+is_value v =
+    nat_le 1 (length v) && nat_le (length v) 20 && list_all (λ b. is_ascii_digit b || is_ascii_lowercase b) v
 
 abbrev pub value_of_digits : List ℕ → ℕ
 value_of_digits v = fold (λ n b. n * 10 + (b - 48)) 0 v
 
 -- the number that a text is the decimal form of
 abbrev pub number : List ℕ → Option ℕ
-number v = if list_all is_ascii_digit v && bytes_eq (decimal (value_of_digits v)) v then Some (value_of_digits v) else None
+number v =
+    if list_all is_ascii_digit v && bytes_eq (decimal (value_of_digits v)) v then Some (value_of_digits v)
+    else None
 
 abbrev pub in_range : ℕ → ℕ → Option ℕ → Bool
 in_range low high None = false
@@ -92,7 +95,8 @@ abbrev pub value_in : Settings → List ℕ → Option (List ℕ)
 value_in settings name = option_map (λ p. p.1) (find (λ p. bytes_eq name p.0) settings)
 
 abbrev pub allows : Kinds → List ℕ × List ℕ → Bool
-allows kinds setting = is_value setting.1 && list_any (λ k. bytes_eq k.0 setting.0 && is_allowed k.1 setting.1) kinds
+allows kinds setting =
+    is_value setting.1 && list_any (λ k. bytes_eq k.0 setting.0 && is_allowed k.1 setting.1) kinds
 
 abbrev pub names_differ : Settings → Bool
 names_differ [] = true
@@ -148,7 +152,9 @@ job_agrees s = agrees (cutting_in s) (number_in s (codes "container") 4194304)
 
 -- name=value
 abbrev pub split_setting : List ℕ → Option (List ℕ × List ℕ)
-split_setting w = let i = position_or_len (nat_eq 61) w in if nat_lt i (length w) then Some (take i w, drop (i + 1) w) else None
+split_setting w =
+    let i =
+    position_or_len (nat_eq 61) w in if nat_lt i (length w) then Some (take i w, drop (i + 1) w) else None
 
 -- a word that begins with two dashes, without them
 abbrev pub undashed : List ℕ → Option (List ℕ)
@@ -215,7 +221,8 @@ sample_in s = both (number_if_given s (codes "sample")) (number_if_given s (code
 -- the sampled index is asked for by both of its settings or by none
 abbrev pub sample_agrees : Settings → Bool
 sample_agrees s =
-    if has_value s (codes "sample") then has_value s (codes "prefetch") else not (has_value s (codes "prefetch"))
+    if has_value s (codes "sample") then has_value s (codes "prefetch")
+    else not (has_value s (codes "prefetch"))
 
 -- an area takes the place of the cache
 abbrev pub area_agrees : Settings → Bool
@@ -225,7 +232,9 @@ abbrev pub backup_command : Settings → Command
 backup_command s = command.Backup (set_in s) (config_in s) (queue_in s) (lanes_in s) (sample_in s)
 
 abbrev pub restore_command : Settings → Command
-restore_command s = command.Restore (set_in s) (number_in s (codes "version") 0) (cache_in s) (number_if_given s (codes "area"))
+restore_command s =
+    command.Restore (set_in s) (number_in s (codes "version") 0) (cache_in s)
+    (number_if_given s (codes "area"))
 
 abbrev pub delete_command : Settings → Command
 delete_command s = command.Delete (set_in s) (number_in s (codes "through") 0)
@@ -237,7 +246,9 @@ abbrev pub batch_command : Settings → Command
 batch_command s = command.Batch (queue_in s) (lanes_in s) (workers_in s)
 
 abbrev pub fill_command : Settings → Command
-fill_command s = command.Fill (number_in s (codes "seed") 0) (number_in s (codes "versions") 1) (queue_in s) (lanes_in s) (workers_in s)
+fill_command s =
+    command.Fill (number_in s (codes "seed") 0) (number_in s (codes "versions") 1) (queue_in s) (lanes_in s)
+    (workers_in s)
 
 abbrev pub scrub_command : Settings → Command
 scrub_command s = command.Scrub (workers_in s)
@@ -245,13 +256,23 @@ scrub_command s = command.Scrub (workers_in s)
 -- the command with its settings
 abbrev pub command_with : List ℕ → Settings → Option Command
 command_with name s =
-    if bytes_eq name (codes "backup") then checked (set_kind ++ job_kinds ++ queue_kinds ++ sample_kinds) (λ s. job_agrees s && sample_agrees s) backup_command s
-    else if bytes_eq name (codes "restore") then checked (set_kind ++ version_kind (codes "version") ++ cache_kind ++ area_kind) (λ s. has_value s (codes "version") && area_agrees s) restore_command s
-    else if bytes_eq name (codes "delete") then checked (set_kind ++ version_kind (codes "through")) (λ s. has_value s (codes "through")) delete_command s
-    else if bytes_eq name (codes "show") then checked (set_kind ++ version_kind (codes "version")) (λ s. has_value s (codes "version")) show_command s
+    if bytes_eq name (codes "backup")
+    then checked (set_kind ++ job_kinds ++ queue_kinds ++ sample_kinds)
+    (λ s. job_agrees s && sample_agrees s) backup_command s
+    else if bytes_eq name (codes "restore")
+    then checked (set_kind ++ version_kind (codes "version") ++ cache_kind ++ area_kind)
+    (λ s. has_value s (codes "version") && area_agrees s) restore_command s
+    else if bytes_eq name (codes "delete")
+    then checked (set_kind ++ version_kind (codes "through")) (λ s. has_value s (codes "through"))
+    delete_command s
+    else if bytes_eq name (codes "show")
+    then checked (set_kind ++ version_kind (codes "version")) (λ s. has_value s (codes "version"))
+    show_command s
     else if bytes_eq name (codes "batch") then checked (queue_kinds ++ workers_kind) always batch_command s
     else if bytes_eq name (codes "fill") then
-    checked ((codes "seed", Number 0 18446744073709551615) ∷ (codes "versions", Number 1 64) ∷ queue_kinds ++ workers_kind)
+    checked
+    ((codes "seed", Number 0 18446744073709551615) ∷ (codes "versions", Number 1 64) ∷ queue_kinds
+    ++ workers_kind)
     (λ s. has_value s (codes "seed") && has_value s (codes "versions")) fill_command s
     else if bytes_eq name (codes "migrate") then checked [] always (λ s. command.Migrate) s
     else if bytes_eq name (codes "scrub") then checked workers_kind always scrub_command s
@@ -264,7 +285,9 @@ command_of (name ∷ words) = option_and_then (command_with name) (settings_of w
 
 -- the set and version that the words of a replica name
 abbrev pub replica_with : Settings → Option (ℕ × ℕ)
-replica_with s = checked (set_kind ++ version_kind (codes "version")) (λ s. has_value s (codes "version")) (λ s. (set_in s, number_in s (codes "version") 0)) s
+replica_with s =
+    checked (set_kind ++ version_kind (codes "version")) (λ s. has_value s (codes "version"))
+    (λ s. (set_in s, number_in s (codes "version") 0)) s
 
 abbrev pub replica_of : List (List ℕ) → Option (ℕ × ℕ)
 replica_of words = option_and_then replica_with (settings_of words)
@@ -301,26 +324,32 @@ abbrev pub begins_well : List ℕ → Bool
 begins_well [] = false
 begins_well (b ∷ bs) = not (b == 46) && not (b == 45)
 
--- the name of a place: 1 to 64 letters, digits, dots, dashes and underscores, the first neither a dot nor a dash
+-- the name of a place: 1 to 64 letters, digits, dots, dashes and underscores, the first neither a
+-- dot nor a dash
 abbrev pub is_name : List ℕ → Bool
 is_name name = begins_well name && nat_le (length name) 64 && list_all is_name_byte name
 
 abbrev pub backup_line : List ℕ → List (List ℕ) → Option Line
 backup_line name words =
     if is_name name
-    then option_and_then (checked (set_kind ++ job_kinds) job_agrees (λ s. line.Backup (set_in s) name (config_in s))) (line_settings words)
+    then option_and_then (checked (set_kind ++ job_kinds) job_agrees
+    (λ s. line.Backup (set_in s) name (config_in s)))
+    (line_settings words)
     else None
 
 abbrev pub restore_line : List ℕ → List ℕ → List (List ℕ) → Option Line
 restore_line version name words =
     if is_name name && is_value version && is_allowed (Number 0 4294967295) version
-    then option_and_then (checked (set_kind ++ cache_kind) always (λ s. line.Restore (set_in s) (value_of_digits version) name (cache_in s))) (line_settings words)
+    then option_and_then (checked (set_kind ++ cache_kind) always
+    (λ s. line.Restore (set_in s) (value_of_digits version) name (cache_in s)))
+    (line_settings words)
     else None
 
 abbrev pub delete_line : List ℕ → List (List ℕ) → Option Line
 delete_line through words =
     if is_value through && is_allowed (Number 0 4294967295) through
-    then option_and_then (checked set_kind always (λ s. line.Delete (set_in s) (value_of_digits through))) (line_settings words)
+    then option_and_then (checked set_kind always (λ s. line.Delete (set_in s) (value_of_digits through)))
+    (line_settings words)
     else None
 
 -- the line that the words are, if they are one
@@ -353,7 +382,8 @@ outputs_of (line.Delete s n) = []
 abbrev pub are_apart : List (List ℕ) → List (List ℕ) → Bool
 are_apart names others = not (list_any (is_one_of others) names)
 
--- whether a line may follow lines with these sources and outputs: no output is named twice, and none is a source
+-- whether a line may follow lines with these sources and outputs: no output is named twice, and
+-- none is a source
 abbrev pub may_follow : List (List ℕ) → List (List ℕ) → Line → Bool
 may_follow sources outputs l =
     are_apart (outputs_of l) outputs && are_apart (outputs_of l) sources && are_apart (sources_of l) outputs

@@ -492,5 +492,6 @@ pub fn backup_keeps_bytes()
 
 /// A deletion leaves exactly the containers that are still named.
 pub fn delete_keeps_named()
-    ensures { (S : State) (s n : ℕ) → map id_of S.containers ≡ named S → map id_of (delete S s n).containers ≡ named (delete S s n) }
+    ensures { (S : State) (s n : ℕ) → map id_of S.containers ≡ named S
+        → map id_of (delete S s n).containers ≡ named (delete S s n) }
 {}

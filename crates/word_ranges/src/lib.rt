@@ -17,7 +17,8 @@ pub fn commands_are_in_range()
 
 /// The settings of each line of a script are in their ranges, no output is named twice, and none is a source.
 pub fn scripts_are_in_range()
-    ensures ranges { (text : List ℕ) (lines : List Line) → script_of text ≡ Ok lines → AllByRecursion IsLineInRange lines }
+    ensures ranges { (text : List ℕ) (lines : List Line) → script_of text ≡ Ok lines
+        → AllByRecursion IsLineInRange lines }
     ensures apart { (text : List ℕ) (lines : List Line) → script_of text ≡ Ok lines → AreApartLines lines }
 {}
 

@@ -12,7 +12,7 @@ use Rattle.std.proofs.lemmas.Fmt.{decimal_injective}
 use Rattle.vault_types.proofs.FillLemmas.{bytes_eq-same, same_bytes}
 use Rattle.vault_types.specs.Generator.{generated}
 use Rattle.workload.specs.declared.place.FillPlace.{FillPlace}
-use Rattle.workload.specs.Places.{source_name, source, written, sources, sources_to, place_at, version_at, version_bytes, bytes_of_place, file_at, output_at, Filling, IsPlaced, IsFirst}
+use Rattle.workload.specs.Places.{source_name, source, written, sources, sources_to, place_at, version_at, generated_version, bytes_of_place, file_at, output_at, FilledPlaces, IsPlaced, IsFirst}
 
 other_bytes : (p q : List ℕ) → p ≢ q → bytes_eq p q ≡ false
 other_bytes p q other = by (bytes_eq p q) refl
@@ -138,17 +138,17 @@ pub source_version : (v : ℕ) → 1 ≤ v → v ≤ 64 → version_at sources (
 source_version v low high = ap (λ (p : Option FillPlace). option_map_or (λ q. q.version) p None) (source_found v low high)
 
 pub source_bytes : (seed v : ℕ) → 1 ≤ v → v ≤ 64 → file_at seed sources (source_name v) ≡ Some (generated seed v)
-unfolding version_bytes
+unfolding generated_version
 source_bytes seed v low high = ap (λ (p : Option FillPlace). option_map (λ q. bytes_of_place seed q) p) (source_found v low high)
 
 -- a name that gives a version has its bytes
 pub version_file : (seed v : ℕ) (places : List FillPlace) (name : List ℕ) → Some v ≡ version_at places name → Some (generated seed v) ≡ file_at seed places name
-unfolding version_bytes
+unfolding generated_version
 version_file seed v places name = by (place_at places name)
   where
     by : (p : Option FillPlace) → Some v ≡ option_map_or (λ q. q.version) p None → Some (generated seed v) ≡ option_map (λ q. bytes_of_place seed q) p
     by None is = cc
-    by (Some p) is = ap (λ (o : Option ℕ). Some (option_map_or (λ u. version_bytes seed u) o p.bytes)) is
+    by (Some p) is = ap (λ (o : Option ℕ). Some (option_map_or (λ u. generated_version seed u) o p.bytes)) is
 
 -- ---- of the calls
 
@@ -192,5 +192,5 @@ unfolding sources
 all_sources before new none is = is ∙ ap (λ (l : List FillPlace). l ++ sources_to 64) none
 
 -- the places where nothing was written
-abbrev pub filling : ℕ → List FillPlace → Filling
+abbrev pub filling : ℕ → List FillPlace → FilledPlaces
 filling seed places = record { seed = seed; places = places; write_faults = 0 }

@@ -8,7 +8,7 @@ use Rattle.vault_traits.specs.Told.{PlacesTold}
 use Rattle.workload.specs.declared.place.FillPlace.{FillPlace}
 
 -- of the places: the seed, what is under each name, and how often a write failed
-pub record Filling : Type 0 where
+pub record FilledPlaces : Type 0 where
   pub seed : ℕ
   pub places : List FillPlace
   pub write_faults : ℕ
@@ -40,25 +40,33 @@ version_at places name = option_map_or (λ p. p.version) (place_at places name) 
 
 -- what was written under a name
 abbrev pub output_at : List FillPlace → List ℕ → Option (List ℕ)
-output_at places name = option_map_or (λ p. option_map_or (λ v. None) p.version (Some p.bytes)) (place_at places name) None
+output_at places name =
+    option_map_or (λ p. option_map_or (λ v. None) p.version (Some p.bytes)) (place_at places name) None
 
-unfoldable pub version_bytes : ℕ → ℕ → List ℕ
-version_bytes seed v = generated seed v
+unfoldable pub generated_version : ℕ → ℕ → List ℕ
+generated_version seed v = generated seed v
 
 -- the bytes under a name
 abbrev pub bytes_of_place : ℕ → FillPlace → List ℕ
-bytes_of_place seed p = option_map_or (λ v. version_bytes seed v) p.version p.bytes
+bytes_of_place seed p = option_map_or (λ v. generated_version seed v) p.version p.bytes
 
 abbrev pub file_at : ℕ → List FillPlace → List ℕ → Option (List ℕ)
 file_at seed places name = option_map (λ p. bytes_of_place seed p) (place_at places name)
 
 -- what they tell: no opening and no reader fails
-abbrev pub told_of : Filling → PlacesTold
-told_of p = record { files = Some (file_at p.seed p.places); faults = 0; read_faults = 0; write_faults = p.write_faults }
+abbrev pub told_of : FilledPlaces → PlacesTold
+told_of p =
+    record {
+      files = Some (file_at p.seed p.places);
+      faults = 0;
+      read_faults = 0;
+      write_faults = p.write_faults;
+    }
 
 -- the name has these bytes now, and each other what it had
 abbrev pub IsPlaced : List FillPlace → List FillPlace → List ℕ → List ℕ → Type 0
-IsPlaced old new name bytes = (q : List ℕ) → place_at new q ≡ cond (bytes_eq q name) (Some (written name bytes)) (place_at old q)
+IsPlaced old new name bytes =
+    (q : List ℕ) → place_at new q ≡ cond (bytes_eq q name) (Some (written name bytes)) (place_at old q)
 
 -- the name stands first at that place
 abbrev pub IsFirst : List FillPlace → List ℕ → ℕ → Type 0

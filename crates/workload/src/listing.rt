@@ -36,7 +36,8 @@ pub fn add_sources(alloc: Global, last: Version, places: &mut Vec<FillPlace>) ->
 
 // Where the name stands first.
 fn index_of(places: &[FillPlace], name: &str) -> Option<usize>
-    ensures { MatchOption result (place_at places.now name.now ≡ None) (λ i. (i < length places.now) × IsFirst places.now name.now i) }
+    ensures { MatchOption result (place_at places.now name.now ≡ None) (λ i. (i < length places.now)
+        × IsFirst places.now name.now i) }
 {
     for (i, place) in places.iter().enumerate() {
         if place.name.as_str() == name {

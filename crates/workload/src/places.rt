@@ -29,9 +29,9 @@ pub struct FillPlaces {
 }
 
 impl Model for FillPlaces {
-    ghost use Rattle.workload.specs.Places.{Filling};
+    ghost use Rattle.workload.specs.Places.{FilledPlaces};
 
-    ghost Value = { Filling };
+    ghost Value = { FilledPlaces };
 
     ghost view = { λ p. record { seed = p.seed; places = p.places.items; write_faults = p.write_faults } };
 }
@@ -40,8 +40,10 @@ impl FillPlaces {
     /// The places with the versions of this seed, where nothing was written.
     pub fn with(alloc: Global, seed: u64) -> Result<Self, Memory>
         ensures value { IfOk result (λ p. p ≡ record { seed = seed; places = sources; write_faults = 0 }) }
-        ensures versions { IfOk result (λ p. (v : ℕ) → 1 ≤ v → v ≤ 64 → version_at p.places (source_name v) ≡ Some v) }
-        ensures bytes { IfOk result (λ p. (v : ℕ) → 1 ≤ v → v ≤ 64 → file_at p.seed p.places (source_name v) ≡ Some (generated seed v)) }
+        ensures versions { IfOk result (λ p. (v : ℕ) → 1 ≤ v → v ≤ 64
+            → version_at p.places (source_name v) ≡ Some v) }
+        ensures bytes { IfOk result (λ p. (v : ℕ) → 1 ≤ v → v ≤ 64
+            → file_at p.seed p.places (source_name v) ≡ Some (generated seed v)) }
     {
         let mut places = Vec::new(alloc);
         add_sources(alloc, 64, &mut places)?;
@@ -119,9 +121,14 @@ impl Places for FillPlaces {
 
     fn close_sink(&mut self, name: &str, writer: FillSink)
         requires { IsThere (Some (file_at self.old.seed self.old.places)) name.now }
-        ensures room { FailsOnlyFull (Some 8388671) (record { taken = Some writer.taken; faults = writer.faults }) }
+        ensures room { FailsOnlyFull (Some 8388671)
+            (record { taken = Some writer.taken; faults = writer.faults }) }
         ensures places { IsPlaced self.old.places self.new.places name.now writer.taken }
-        ensures kept { self.new ≡ record self.old { places = self.new.places; write_faults = added self.old.write_faults writer.faults } }
+        ensures kept { self.new
+            ≡ record self.old {
+              places = self.new.places;
+              write_faults = added self.old.write_faults writer.faults;
+            } }
     {
         self.write_faults = self.write_faults.saturating_add(writer.faults());
         give(self.places.as_mut_slice(), name, writer.into_vec());

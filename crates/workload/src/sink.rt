@@ -55,7 +55,8 @@ impl Sink for FillSink {
     fn write(&mut self, piece: &[u8]) -> Result<usize, Failed>
         requires { 0 < length piece.now }
         ensures some { IfOk result (λ n. (0 < n) × (n ≤ length piece.now)) }
-        ensures taken { IfOk result (λ n. Takes (Some self.old.taken) (Some self.new.taken) (take n piece.now)) }
+        ensures taken { IfOk result
+            (λ n. Takes (Some self.old.taken) (Some self.new.taken) (take n piece.now)) }
         ensures err { OnErr result (self.new.taken ≡ self.old.taken) }
         ensures cause { HasFailed self.old.faults self.new.faults result }
     {

@@ -1,4 +1,4 @@
-use Rattle.std.proofs.Common.{◌≡◌, ℕ, List, []}
+use Rattle.std.proofs.Common.{[]}
 use Rattle.chunk_ae.proofs.CutterLemmas.{first-whole, first-open}
 use Rattle.chunk_ae.proofs.first_cut.Goals as goal
 

@@ -2,7 +2,7 @@ use Rattle.vault_types.specs.declared.Cutting.TheVariants.{Ae}
 use Rattle.vault_types.specs.Cuts.{settled_len}
 use Rattle.vault_types.proofs.PartsLemmas.{parts-append}
 use Rattle.vault_types.proofs.BackupLemmas.{concat-cuts}
-use Rattle.chunk_ae.proofs.EndLemmas.{ae-stable}
+use Rattle.vault_types.proofs.CutLemmas.{ae-stable}
 use Rattle.vault_types.proofs.FeedLemmas.{rest-append}
 use Rattle.chunk_ae.proofs.pieces_do_not_matter.Goals as goal
 

@@ -3,7 +3,7 @@ use Rattle.vault_types.specs.Cuts.{settled_len}
 use Rattle.vault_types.proofs.PartsLemmas.{parts-append}
 use Rattle.vault_types.proofs.BackupLemmas.{concat-cuts}
 use Rattle.vault_types.proofs.FeedLemmas.{rest-append}
-use Rattle.chunk_fixed.proofs.StreamLemmas.{fixed-stable}
+use Rattle.vault_types.proofs.CutLemmas.{fixed-stable}
 use Rattle.chunk_fixed.proofs.pieces_do_not_matter.Goals as goal
 
 pub returns : goal.returns

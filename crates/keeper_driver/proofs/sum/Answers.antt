@@ -1,6 +1,6 @@
 use Rattle.std.proofs.Common.{List, ℕ, sym, subst}
 use Rattle.vault_types.specs.Names.{IsFp}
-use Rattle.container_fill.proofs.SumLemmas.{fp-is_fp}
+use Rattle.vault_types.proofs.SumLemmas.{fp-is_fp}
 use Rattle.keeper_driver.proofs.sum.Goals as goal
 
 pub returns-clause-rules : goal.returns-clause-rules

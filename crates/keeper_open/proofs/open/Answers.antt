@@ -1,12 +1,12 @@
-use Rattle.std.proofs.Common.{◌≡◌, ◌∙◌, sym, ap, subst, refl, arith, Option, ℕ, List, [], map}
+use Rattle.std.proofs.Common.{◌∙◌, sym, subst, arith, Option, ℕ, List, map}
 use Rattle.std.specs.Prelude.{filter, not}
 use Rattle.vault_types.specs.declared.Fault.{Fault}
-use Rattle.vault_types.specs.Lists.{IsAscending, set_of}
+use Rattle.vault_types.specs.Lists.{IsAscending}
 use Rattle.vault_types.specs.Shelf.{Blobs}
 use Rattle.vault_types.proofs.SetLemmas.{IsAscending-set_of}
 use Rattle.vault_traits.specs.Causes.{IsCause}
 use Rattle.vault_types.specs.FirstDamage.{IsDamageOf}
-use Rattle.keeper_open.specs.Reading.{AreFloors, AreSets, AreTables, IsFirstTable, IsFound, all_recipes, rows_of, needs}
+use Rattle.keeper_open.specs.Reading.{AreFloors, AreSets, AreReadTables, IsFirstTable, IsFound, all_recipes, rows_of_all, needs}
 use Rattle.keeper_open.proofs.Gathering.{causes_again}
 use Rattle.keeper_open.proofs.Judging.{table_damage_of, row_damage_of}
 use Rattle.keeper_open.proofs.Concluding.{is_opened}
@@ -16,7 +16,7 @@ pub read_tables-requires : goal.read_tables-requires
 read_tables-requires g c =
     let sets = c.in_ok-sets.ensures.read in
     let noted = sets.4 c.new-notes.ensures in
-    subst IsAscending (sym (c.as_slice-4.ensures.value ∙ c.in_ok-ids.ensures ∙ noted.ids)) (IsAscending-set_of (map (λ r. r.id) (rows_of (all_recipes sets.0))))
+    subst IsAscending (sym (c.as_slice-4.ensures.value ∙ c.in_ok-ids.ensures ∙ noted.ids)) (IsAscending-set_of (map (λ r. r.id) (rows_of_all (all_recipes sets.0))))
 
 pub returns-in_err-found-clause-causes : goal.returns-in_err-found-clause-causes
 returns-in_err-found-clause-causes g c =
@@ -46,7 +46,7 @@ returns-in-Some-clause-causes g c =
       each = subst (λ (f : Fault). IsCause (g.S.Shelf.told c.args.shelf.now).faults (g.S.Shelf.told c.read_tables.new.shelf).faults (IsDamageOf told) f) (sym c.bad_row.ensures)
           (row_damage_of told c.in_ok-floors.floors.items sets.0 found.0 c.read_sets.new.notes.places.entries c.in_ok-found.found.places.entries
           (subst (λ (t : Option Blobs). AreFloors t 0 c.in_ok-floors.floors.items) surveyed c.in_ok-floors.ensures.read.0) c.in_ok-floors.ensures.read.1
-          (subst (λ (t : Option Blobs). AreSets t 0 sets.0) floored sets.3) sets.2 (subst (λ (t : Option Blobs). AreTables t found.0) gathered found.1.read)
+          (subst (λ (t : Option Blobs). AreSets t 0 sets.0) floored sets.3) sets.2 (subst (λ (t : Option Blobs). AreReadTables t found.0) gathered found.1.read)
           (found.1.of ∙ c.as_slice-4.ensures.value ∙ c.in_ok-ids.ensures ∙ noted.ids) noted.places found.1.left c.in-Some.place c.in-Some.ensures.some c.in-Some.ensures.least);
     }
 

@@ -1,7 +1,5 @@
-use Rattle.std.proofs.Common.{sym, ◌∙◌, ap, subst, arith, ◌≡◌, ◌≤◌, ◌<◌, ◌+◌, ◌-◌, ◌^◌, ℕ, length, rules, refl}
-use Rattle.std.specs.Prelude.{Contains, vec_len, List}
-use Rattle.std.specs.List.{remove}
-use Rattle.std.proofs.lemmas.Grind.{common_steps}
+use Rattle.std.proofs.Common.{sym, ◌∙◌, subst, arith, ◌<◌, ◌-◌, length, refl}
+use Rattle.std.specs.Prelude.{Contains, List}
 use Rattle.vault_types.specs.declared.Name.{Name}
 use Rattle.state_laws.specs.Parts.{HeldIfTold, with_strays}
 use Rattle.vault_types.specs.Events.{IsNear}

@@ -1,4 +1,4 @@
-use Rattle.std.proofs.Common.{◌≡◌, ◌≤◌, ◌<◌, ◌+◌, ◌-◌, ◌^◌, ℕ, length, vec_len, vec_capacity}
+use Rattle.std.proofs.Common.{◌≡◌, ◌≤◌, ◌<◌, ◌+◌, ◌-◌, ◌^◌, length, vec_len, vec_capacity}
 use Rattle.std.specs.Prelude.{Contains}
 use Rattle.vault_types.specs.declared.Name.{Name}
 use Rattle.vault_types.specs.Events.{Core, IsNear}

@@ -1,11 +1,11 @@
-use Rattle.std.proofs.Common.{ap, subst, sym, Some, None, ◌∙◌, List, ℕ, inl}
-use Rattle.std.specs.Prelude.{Option, IfSome, Result, Err}
+use Rattle.std.proofs.Common.{ap, sym, Some, None, ◌∙◌}
+use Rattle.std.specs.Prelude.{Result, Err}
 use Rattle.vault_traits.specs.declared.names.Refused.{Refused}
-use Rattle.vault_types.specs.Shelf.{Blobs, recipe_name, Stands}
+use Rattle.vault_types.specs.Shelf.{Blobs, recipe_name}
 use Rattle.vault_types.specs.Events.{IsNear}
 use Rattle.vault_traits.proofs.Moments.{then, ends, stays}
 use Rattle.state_laws.specs.Parts.{change}
-use Rattle.state_laws.proofs.Changing.{settle_moment, settled_first, written, settled_second, committed_now, renamed, renamed_done, done_of, failed_of, near_more}
+use Rattle.state_laws.proofs.Changing.{settle_moment, written, settled_second, renamed, done_of, failed_of}
 use Rattle.keeper_parts.proofs.commit.Goals as goal
 
 pub returns-in-Err-Memory-clause-any_moment : goal.returns-in-Err-Memory-clause-any_moment

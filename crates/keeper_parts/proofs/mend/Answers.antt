@@ -1,4 +1,4 @@
-use Rattle.std.proofs.Common.{◌≡◌, ◌∙◌, refl, sym, ap, Option, Some, None}
+use Rattle.std.proofs.Common.{◌∙◌, refl, sym, ap, Option, None}
 use Rattle.vault_types.specs.Shelf.{Blobs, blob_at}
 use Rattle.vault_types.specs.Events.{IsNear, Held}
 use Rattle.vault_traits.proofs.Maps.{other_blob}

@@ -1,5 +1,4 @@
-use Rattle.std.proofs.Common.{◌≡◌, ◌∙◌, ap, Some, ℕ, List}
-use Rattle.vault_types.specs.Events.{Held, IsNear}
+use Rattle.std.proofs.Common.{◌∙◌, ap, Some, ℕ, List}
 use Rattle.state_laws.proofs.Standing.{put_there, put_held, put_moment}
 use Rattle.keeper_parts.proofs.Telling.{tells_in_turn, other_in_turn}
 use Rattle.keeper_parts.proofs.put_container.Goals as goal

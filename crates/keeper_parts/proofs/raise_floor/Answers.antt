@@ -1,8 +1,7 @@
-use Rattle.std.proofs.Common.{◌≡◌, ◌∙◌, refl, sym, Some, None, inl}
+use Rattle.std.proofs.Common.{◌∙◌, refl, sym, Some, None, inl}
 use Rattle.vault_types.specs.Blobs.{floor_bytes}
 use Rattle.vault_types.specs.Shelf.{floor_name, Stands}
 use Rattle.vault_types.specs.Events.{IsNear}
-use Rattle.vault_traits.specs.Shelf.{blobs_with}
 use Rattle.vault_traits.proofs.Moments.{then, ends, stays}
 use Rattle.state_laws.specs.Parts.{change}
 use Rattle.state_laws.proofs.Changing.{raised, settle_moment, settle_leaves, told_same, told_with, done_of, failed_of}

@@ -1,6 +1,6 @@
-use Rattle.std.proofs.Common.{◌≡◌, ◌∙◌, subst, arith}
+use Rattle.std.proofs.Common.{◌∙◌, arith}
 use Rattle.backup_jobs.specs.Backup.{BacksUp}
-use Rattle.backup_jobs.specs.Going.{Began, IsOver, began_with}
+use Rattle.backup_jobs.specs.Going.{Began, began_with}
 use Rattle.backup_jobs.proofs.Closes.{err_again}
 use Rattle.serial_backup.proofs.Starts.{starts}
 use Rattle.serial_backup.proofs.backup_plain.Goals as goal

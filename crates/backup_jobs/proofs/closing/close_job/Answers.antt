@@ -1,10 +1,9 @@
-use Rattle.std.proofs.Common.{◌≡◌, sym, ◌∙◌, subst}
+use Rattle.std.proofs.Common.{sym, ◌∙◌, subst}
 use Rattle.std.specs.Prelude.{Result, IfOk, IfErr}
 use Rattle.vault_types.specs.declared.Fault.{Fault}
 use Rattle.vault_types.specs.declared.Answer.{Answer}
 use Rattle.vault_types.specs.declared.Recipe.{Recipe}
-use Rattle.vault_traits.specs.Told.{SourceTold}
-use Rattle.backup_jobs.specs.Going.{Began, IsJobOf, IsOver, IsStopped, HasConcluded, made, job_core, job_with}
+use Rattle.backup_jobs.specs.Going.{IsStopped, HasConcluded, made, job_core, job_with}
 use Rattle.backup_jobs.proofs.Closes.{in_job_of, stopped_backs_up, commit_backs_up, refused_backs_up}
 use Rattle.backup_jobs.proofs.closing.close_job.Goals as goal
 

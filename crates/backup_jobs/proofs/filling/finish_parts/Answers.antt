@@ -1,4 +1,4 @@
-use Rattle.std.proofs.Common.{◌≡◌, ◌+◌, ◌<◌, ◌++◌, [], ◌∷◌, ℕ, List, ◌∙◌, ap, sym, subst, map, length, Option, Some, None}
+use Rattle.std.proofs.Common.{◌≡◌, ◌+◌, ◌<◌, ◌++◌, [], ◌∷◌, List, ◌∙◌, ap, sym, subst, map, length, Option}
 use Rattle.std.specs.Prelude.{IfSome, option_to_list}
 use Rattle.vault_types.specs.declared.How.{How}
 use Rattle.vault_types.specs.Names.{NamedChunk}
@@ -7,10 +7,10 @@ use Rattle.vault_types.specs.Fill.{fill}
 use Rattle.container_fill.specs.Carried.{carried}
 use Rattle.container_fill.specs.Filling.{IsFilledBy}
 use Rattle.backup_jobs.specs.declared.closing.Rest.{Rest}
-use Rattle.backup_jobs.specs.Going.{Began, IsFilling, IsPutStop, chunks_of}
+use Rattle.backup_jobs.specs.Going.{IsPutStop, chunks_of}
 use Rattle.backup_jobs.proofs.Jobs.{stopped_again}
 use Rattle.backup_jobs.proofs.Chunks.{hows}
-use Rattle.backup_jobs.proofs.Ends.{HasLeft, none_left, has_put_all}
+use Rattle.backup_jobs.proofs.Ends.{none_left, has_put_all}
 use Rattle.backup_jobs.proofs.Parts.{next_id, room_for_last, filled_all, all_in_turn, parts_left}
 use Rattle.backup_jobs.proofs.filling.finish_parts.Goals as goal
 

@@ -1,4 +1,4 @@
-use Rattle.std.proofs.Common.{◌≡◌, ◌+◌, ◌<◌, ℕ, ◌∙◌, ap, sym, subst, length, Option, Some, None}
+use Rattle.std.proofs.Common.{◌≡◌, ◌+◌, ◌<◌, ◌∙◌, ap, sym, subst, length, Option, Some, None}
 use Rattle.std.specs.Prelude.{IfSome}
 use Rattle.vault_types.specs.Names.{named_chunk}
 use Rattle.vault_types.specs.Tables.{Container}

@@ -1,6 +1,5 @@
-use Rattle.std.proofs.Common.{◌≡◌, ◌⊎◌, inl, inr, ℕ, ◌+◌, ◌-◌, ◌*◌, ◌%◌, ◌^◌, ◌<◌, ◌≤◌, List, ◌++◌, length, get_or, refl, ap, ◌∙◌, sym, arith}
+use Rattle.std.proofs.Common.{◌≡◌, ◌⊎◌, inl, inr, ◌+◌, ◌-◌, ◌*◌, ◌%◌, ◌^◌, ◌<◌, get_or, refl, ◌∙◌, arith}
 use Rattle.std.specs.Prelude.{bit_or, min}
-use Rattle.std.proofs.lemmas.Grind.{common_steps}
 use Rattle.chunk_ae.proofs.ScanLemmas.{Finds, code-on, code-end, code-all}
 use Rattle.chunk_ae.proofs.scan.scan_piece.Goals as goal
 use Rattle.chunk_ae.proofs.scan.scan_piece.Goals.{then-recent-peak, else-recent-peak}

@@ -1,22 +1,24 @@
-use Rattle.std.proofs.Common.{refl}
-use Rattle.store_model.specs.World.{World}
+use Rattle.std.proofs.Common.{refl, ap}
+use Rattle.store_model.specs.World.{World, world}
 use Rattle.store_model.specs.Courses.{RunsDelete}
-use Rattle.run_laws.proofs.OneLineRuns.{delete_run}
 use Rattle.store_model.specs.Steps.{answer_of}
-use Rattle.command_runner.proofs.Openings.{one_answer, printed_one, pushed_one, status_of_slice}
+use Rattle.run_laws.proofs.OneLineRuns.{delete_run}
+use Rattle.command_runner.proofs.Openings.{one_answer, printed_one}
 use Rattle.command_runner.proofs.one_line.run_delete.Goals as goal
 
 pub returns : goal.returns
-returns g c =
-    let p = g.P.Places.told c.args.places.now in
+returns g c limits p =
     let s = g.S.Shelf.told in
+    let i = g.I.Source.told in
     let o = g.O.Sink.told in
     let r = g.R.Sink.told in
-    let before : World = record { shelf = s c.args.shelf; places = p; input = g.I.Source.told c.args.input; out = o c.args.out; report = r c.args.report.now } in
-    let now : World = record { shelf = s c.close.result; places = p; input = g.I.Source.told c.args.input; out = o c.print_all-fault.new.out; report = r c.args.report.now } in
+    let e = c.ended_on_out.ensures in
+    let done = c.ended_on_out.result in
+    let before : World = world (s c.args.shelf) p (i c.args.input) (o c.args.out) (r c.args.report.now) in
+    let now : World = world (s done.shelf) p (i done.input) (o done.out) (r c.args.report.now) in
     let a = answer_of c.delete-result.result in
-    let one = pushed_one c.push.new.self.items c.in-Ok.opened.1.items c.answer_from.result a c.in-Ok-push.ensures.items c.in-Ok.ensures.room.0 c.answer_from.ensures in
-    let printed = printed_one a c.push.new.self.items c.as_slice.result.now (o c.args.out) (o c.print_all-fault.new.out) c.print_all-fault.result one c.as_slice.ensures.value c.print_all-fault.ensures.printed in
-    one_answer (RunsDelete c.args.set c.args.through c.args.limits.now) before now a c.push.new.self.items c.print_all-fault.result c.status_after.result one (status_of_slice c.status_after.result c.push.new.self.items c.as_slice-2.result.now c.print_all-fault.result c.as_slice-2.ensures.value c.status_after.ensures)
-    c.in-Ok.ensures.opened (delete_run g.K.StateKeeper.shelf g.K.StateKeeper.keeps g.K.StateKeeper.strays g.K.StateKeeper.keeps_is g.K.StateKeeper.strays_known c.args.limits.now before now c.in-Ok.opened.0 c.delete-result.new.self c.args.set c.args.through c.delete-result.result c.print_all-fault.result
-    c.in-Ok.ensures.same c.close.ensures c.in-Ok.ensures.strays c.in-Ok.ensures.keeps c.delete-result.ensures printed refl refl refl)
+    let one = c.one_answer.result.items in
+    let printed = printed_one a c.answer_from.result one done.answers.items c.one_answer.ensures c.answer_from.ensures e.answers before.out now.out done.fault e.printed in
+    let runs = delete_run g.K.StateKeeper.shelf g.K.StateKeeper.keeps g.K.StateKeeper.strays g.K.StateKeeper.keeps_is g.K.StateKeeper.strays_known limits before now c.in-Ok.opened.0 c.delete-result.new.self c.args.set c.args.through c.delete-result.result done.fault
+    c.in-Ok.ensures.same e.shelf c.in-Ok.ensures.strays c.in-Ok.ensures.keeps c.delete-result.ensures printed refl (ap i e.input) refl in
+    one_answer a c.answer_from.result one done.answers.items c.one_answer.ensures c.answer_from.ensures e.answers (RunsDelete c.args.set c.args.through limits) before now done.fault done.status e.status c.in-Ok.ensures.opened runs

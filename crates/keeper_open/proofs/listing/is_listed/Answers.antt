@@ -1,4 +1,4 @@
-use Rattle.std.proofs.Common.{◌∙◌, sym}
+use Rattle.std.proofs.Common.{◌∙◌}
 use Rattle.keeper_open.proofs.Searching.{listed_is}
 use Rattle.keeper_open.proofs.listing.is_listed.Goals as goal
 

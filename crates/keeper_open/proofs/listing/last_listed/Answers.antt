@@ -1,4 +1,4 @@
-use Rattle.std.proofs.Common.{◌∙◌, sym, refl, arith}
+use Rattle.std.proofs.Common.{refl, arith}
 use Rattle.vault_types.specs.declared.Name.{Name}
 use Rattle.vault_types.specs.declared.Kind.TheVariants.{Table}
 use Rattle.keeper_open.proofs.Searching.{search_ok, search_none, search_at}

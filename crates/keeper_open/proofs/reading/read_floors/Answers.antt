@@ -1,4 +1,4 @@
-use Rattle.std.proofs.Common.{◌≡◌, ◌∙◌, sym, ap, subst, arith, Option, ℕ, length-append, length, ◌+◌, [], ◌∷◌}
+use Rattle.std.proofs.Common.{◌∙◌, ap, subst, arith, Option, ℕ, length-append, length, ◌+◌, [], ◌∷◌}
 use Rattle.vault_types.specs.Shelf.{Blobs}
 use Rattle.vault_types.specs.BlobDamage.{IsFloorIn, IsFloorDamage}
 use Rattle.vault_types.specs.FirstDamage.{IsDamageOf}

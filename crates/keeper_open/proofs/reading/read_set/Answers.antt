@@ -1,4 +1,4 @@
-use Rattle.std.proofs.Common.{◌≡◌, ◌∙◌, sym, ap, subst, arith, Option, ℕ, ◌++◌, ◌∷◌, []}
+use Rattle.std.proofs.Common.{◌∙◌, subst, arith, Option, ◌++◌, ◌∷◌, []}
 use Rattle.vault_types.specs.Shelf.{Blobs}
 use Rattle.vault_traits.specs.Shelf.{IsListing}
 use Rattle.vault_types.specs.FirstDamage.{ReadsRecipe}

@@ -1,6 +1,5 @@
-use Rattle.std.proofs.Common.{◌≡◌, ◌∙◌, sym, ap, subst, arith, Option, ℕ, ◌++◌, ◌∷◌, [], List, get_or, refl}
+use Rattle.std.proofs.Common.{◌∙◌, sym, subst, arith, Option, ◌++◌, ◌∷◌, [], get_or, refl}
 use Rattle.vault_types.specs.Shelf.{Blobs}
-use Rattle.vault_types.specs.BlobDamage.{IsFloorIn}
 use Rattle.vault_traits.specs.Shelf.{IsListing}
 use Rattle.std.specs.Prelude.{IfSome}
 use Rattle.vault_types.specs.FirstDamage.{IsDamageOf}

@@ -1,4 +1,4 @@
-use Rattle.std.proofs.Common.{◌≡◌, ◌∙◌, sym, ap, subst, arith, Option, ℕ, ◌++◌, ◌∷◌, [], List, get_or}
+use Rattle.std.proofs.Common.{◌∙◌, ap, subst, arith, Option, ◌++◌, ◌∷◌, [], List, get_or}
 use Rattle.std.specs.Map.{lookup}
 use Rattle.vault_types.specs.declared.TableRow.{TableRow}
 use Rattle.vault_types.specs.Shelf.{Blobs}

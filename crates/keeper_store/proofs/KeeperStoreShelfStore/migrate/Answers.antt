@@ -1,7 +1,7 @@
 use Rattle.std.proofs.Common.{subst}
 use Rattle.keeper_catalog.specs.View.{View}
 use Rattle.store_model.specs.Migrating.{MigratesStore}
-use Rattle.serial_delete.specs.Keeping.{IsStateOf, IsKnownStray}
+use Rattle.keeper_core.specs.Keeping.{IsStateOf, IsKnownStray}
 use Rattle.keeper_store.proofs.KeeperStoreShelfStore.migrate.Goals as goal
 
 pub returns : goal.returns

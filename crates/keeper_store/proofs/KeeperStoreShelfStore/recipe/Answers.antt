@@ -2,7 +2,7 @@ use Rattle.std.proofs.Common.{◌∙◌, sym, subst}
 use Rattle.vault_types.specs.Events.{Core}
 use Rattle.keeper_catalog.specs.View.{View, Keeps}
 use Rattle.command_runner.specs.Showing.{ReadsRecipe}
-use Rattle.serial_delete.specs.Keeping.{IsStateOf}
+use Rattle.keeper_core.specs.Keeping.{IsStateOf}
 use Rattle.keeper_store.proofs.Reading.{reads}
 use Rattle.keeper_store.proofs.KeeperStoreShelfStore.recipe.Goals as goal
 

@@ -1,6 +1,7 @@
 use Rattle.std.proofs.Common.{arith}
 use Rattle.vault_types.specs.declared.Answer.TheVariants.{Stored}
-use Rattle.report_printer.proofs.Written.{takes_nothing, printed_front}
+use Rattle.vault_traits.proofs.Written.{takes_nothing}
+use Rattle.report_printer.proofs.Written.{printed_front}
 use Rattle.report_printer.proofs.printing.print_all.Goals as goal
 
 pub loop-answer-init : goal.loop-answer-init

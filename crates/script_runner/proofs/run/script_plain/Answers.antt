@@ -1,4 +1,4 @@
-use Rattle.std.proofs.Common.{◌≡◌, length, arith, true}
+use Rattle.std.proofs.Common.{◌≡◌, length, arith}
 use Rattle.script_laws.proofs.Chained.{chain_begins, chain_goes_on, chain_ends}
 use Rattle.script_laws.proofs.Composed.{runs_of_chain}
 use Rattle.script_laws.proofs.Rooms.{steps_of, rooms_of_chain}

@@ -1,4 +1,4 @@
-use Rattle.std.proofs.Common.{◌≡◌, ◌∙◌, ◌++◌, ◌≤◌, ◌<◌, ◌*◌, length, arith, length-append}
+use Rattle.std.proofs.Common.{◌∙◌, ◌++◌, arith, length-append}
 use Rattle.backup_jobs.specs.Going.{IsStopped}
 use Rattle.backup_jobs.proofs.Jobs.{stopped_again}
 use Rattle.serial_backup.proofs.Feeding.{many_stop}

@@ -1,8 +1,8 @@
-use Rattle.std.proofs.Common.{◌≡◌, ◌+◌, ℕ, Bool, true, false, cond, Option, sym, ap, subst, ◌∙◌, arith}
+use Rattle.std.proofs.Common.{◌≡◌, ◌+◌, ℕ, Bool, cond, Option, sym, ap, subst, ◌∙◌, arith}
 use Rattle.vault_types.specs.declared.Fault.{Fault}
 use Rattle.vault_types.specs.State.{State}
 use Rattle.vault_types.specs.Events.{Change}
-use Rattle.serial_delete.specs.Keeping.{IsStateOf}
+use Rattle.keeper_core.specs.Keeping.{IsStateOf}
 use Rattle.serial_migrate.specs.Going.{HasEndedBy}
 use Rattle.serial_migrate.proofs.Ones.{later_of}
 use Rattle.serial_migrate.proofs.Steps.{InSet, enter_here, leave_here, next_here, stop_here, all_sets, err_again}

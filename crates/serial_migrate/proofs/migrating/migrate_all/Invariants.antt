@@ -2,7 +2,7 @@ use Rattle.std.proofs.Common.{◌+◌, ◌-◌, ◌*◌, ◌≤◌, Option}
 use Rattle.vault_types.specs.State.{State}
 use Rattle.vault_types.specs.Events.{Change}
 use Rattle.store_model.specs.Migrating.{versions_below}
-use Rattle.serial_delete.specs.Keeping.{IsStateOf}
+use Rattle.keeper_core.specs.Keeping.{IsStateOf}
 use Rattle.serial_migrate.specs.Going.{IsLaterOf, Gone}
 use Rattle.serial_migrate.proofs.Steps.{InSet}
 use Rattle.serial_migrate.proofs.migrating.migrate_all.Given as goal

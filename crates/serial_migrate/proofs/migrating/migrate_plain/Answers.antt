@@ -2,7 +2,7 @@ use Rattle.std.specs.Prelude.{Result}
 use Rattle.vault_types.specs.declared.Answer.{Answer}
 use Rattle.vault_types.specs.declared.Fault.{Fault}
 use Rattle.store_model.specs.Migrating.{MigratesStore}
-use Rattle.serial_delete.specs.Keeping.{IsStateOf, IsKnownStray}
+use Rattle.keeper_core.specs.Keeping.{IsStateOf, IsKnownStray}
 use Rattle.serial_restore.proofs.Goings.{gone_as}
 use Rattle.serial_migrate.proofs.Stores.{all_done, all_ended}
 use Rattle.serial_migrate.proofs.migrating.migrate_plain.Goals as goal

@@ -2,7 +2,7 @@ use Rattle.std.proofs.Common.{sym, ◌∙◌, Option}
 use Rattle.vault_types.specs.State.{State}
 use Rattle.vault_types.specs.Events.{Change}
 use Rattle.vault_types.specs.declared.Fault.{Fault}
-use Rattle.serial_delete.specs.Keeping.{IsStateOf}
+use Rattle.keeper_core.specs.Keeping.{IsStateOf}
 use Rattle.serial_migrate.specs.Going.{Halted}
 use Rattle.serial_migrate.proofs.Ones.{read_shows, read_halted, read_state, read_second, read_put, put_halted, no_whole}
 use Rattle.serial_migrate.proofs.Steps.{err_again}

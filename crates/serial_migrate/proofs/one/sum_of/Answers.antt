@@ -2,9 +2,9 @@ use Rattle.std.proofs.Common.{sym, ap, subst, ◌∙◌, refl, Some, Option}
 use Rattle.vault_types.specs.Names.{IsFp}
 use Rattle.vault_types.specs.State.{State}
 use Rattle.vault_types.specs.Events.{Change}
-use Rattle.serial_delete.specs.Keeping.{IsStateOf}
+use Rattle.keeper_core.specs.Keeping.{IsStateOf}
 use Rattle.serial_migrate.specs.Going.{Stopped, IsMigrateFault}
-use Rattle.container_fill.proofs.SumLemmas.{fp-is_fp}
+use Rattle.vault_types.proofs.SumLemmas.{fp-is_fp}
 use Rattle.serial_migrate.proofs.Ones.{kept_after, whole_here, summed_here, stopped_here, fault_here}
 use Rattle.serial_migrate.proofs.one.sum_of.Goals as goal
 

@@ -1,6 +1,6 @@
 use Rattle.std.proofs.Common.{◌∙◌, ◌≤◌, sym, refl}
 use Rattle.vault_types.specs.Plans.{loads}
-use Rattle.serial_restore.specs.Going.{IsStopped}
+use Rattle.serial_restore.specs.Going.{IsRestoreStopped}
 use Rattle.serial_restore.proofs.Loads.{stopped_as, begins, way_needs, way_among, goes_on, stops, ends, fewer_left}
 use Rattle.serial_restore.proofs.copying.copy_all.Goals as goal
 
@@ -34,7 +34,7 @@ returns-in_err-load_one-clause-err g c =
     let s = c.args.copier in
     let told = g.O.Sink.told in
     let next = sym c.wants.ensures.next ∙ c.in-Some.is in
-    stopped_as (IsStopped v c.load_one.new.keeper c.args.no.now (told c.args.sink.now) (told c.load_one.new.sink) s.spots s.whole (λ m. m ≤ loads s.steps)) c.from_residual.result c.in_err-load_one.field-0.0 c.from_residual.ensures.1
+    stopped_as (IsRestoreStopped v c.load_one.new.keeper c.args.no.now (told c.args.sink.now) (told c.load_one.new.sink) s.spots s.whole (λ m. m ≤ loads s.steps)) c.from_residual.result c.in_err-load_one.field-0.0 c.from_residual.ensures.1
     (stops v c.args.no.now (told c.args.sink.now) s c.loop-id.keeper (told c.loop-id.sink) c.loop-id.copier c.loop-id.invariant c.load_one.new.keeper (told c.load_one.new.sink) c.in-Some.id next c.in_err-load_one.field-0.0 c.in_err-load_one.ensures.err)
 
 pub returns-clause-ok : goal.returns-clause-ok

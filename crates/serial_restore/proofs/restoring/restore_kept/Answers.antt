@@ -4,7 +4,7 @@ use Rattle.vault_types.specs.declared.Fault.{Fault}
 use Rattle.std.specs.Prelude.{Result}
 use Rattle.vault_types.specs.declared.Whole.{Whole}
 use Rattle.vault_types.specs.Plans.{requests}
-use Rattle.serial_restore.specs.Going.{IsCopied, IsStopped, IsAtMostLeast}
+use Rattle.serial_restore.specs.Going.{IsCopied, IsRestoreStopped, IsAtMostLeast}
 use Rattle.serial_restore.specs.Restoring.{HasGone}
 use Rattle.serial_restore.proofs.Goings.{pinned_core, can_release, gone_as, pin_gone, copied_gone, stopped_gone}
 use Rattle.serial_restore.proofs.restoring.restore_kept.Goals as goal
@@ -30,32 +30,7 @@ pub returns-in-Ok : goal.returns-in-Ok
 returns-in-Ok g c =
     let told = g.O.Sink.told in
     let p = c.in_ok-no.field-0 in
-    let core = c.keeps_some_core.ensures in
-    copied_gone c.args.keeper.now c.pin.new.self c.copy_pinned-copied.new.keeper c.release.new.self (told c.args.sink.now) (told c.copy_pinned-copied.new.sink) c.args.set c.args.version c.args.slots p.no p.length p.spots.items p.whole
-    (record {
-      ok = c.in_ok-no.ensures.ok;
-      whole = c.in_ok-no.ensures.whole;
-      pinned = c.in_ok-no.ensures.pinned;
-      given = c.in_ok-no.ensures.given;
-      fresh = c.in_ok-no.ensures.fresh;
-      lists = c.in_ok-no.ensures.lists;
-      same = c.pin.ensures.same;
-      shelf = c.pin.ensures.shelf;
-      later = (c.pin.ensures.causes core.0 core.1).later;
-      core = core;
-      range = c.ranges.set.fits;
-    })
-    (record {
-      releases = c.release.ensures.releases;
-      pins = c.release.ensures.pins;
-      any_moment = c.release.ensures.any_moment;
-      within = c.release.ensures.within;
-      others = c.release.ensures.others;
-      tells = c.release.ensures.tells;
-      gets = c.release.ensures.gets;
-      later = c.release.ensures.later;
-      same = c.release.ensures.same;
-    })
+    copied_gone c.args.keeper.now c.pin.new.self c.copy_pinned-copied.new.keeper c.release.new.self (told c.args.sink.now) (told c.copy_pinned-copied.new.sink) c.args.set c.args.version c.args.slots c.keeps_some_core.ensures c.ranges.set.fits p c.in_ok-no.ensures c.release.ensures
     c.in-Ok.loads
     (subst (λ (o : Option Whole). IsCopied c.pin.new.self c.copy_pinned-copied.new.keeper p.no (told c.args.sink.now) (told c.copy_pinned-copied.new.sink) p.spots.items o c.args.slots c.in-Ok.loads) c.whole_of-whole.ensures c.in-Ok.ensures.ok)
 
@@ -63,31 +38,6 @@ pub returns-in-Err : goal.returns-in-Err
 returns-in-Err g c =
     let told = g.O.Sink.told in
     let p = c.in_ok-no.field-0 in
-    let core = c.keeps_some_core.ensures in
-    stopped_gone c.args.keeper.now c.pin.new.self c.copy_pinned-copied.new.keeper c.release.new.self (told c.args.sink.now) (told c.copy_pinned-copied.new.sink) c.args.set c.args.version c.args.slots p.no p.length p.spots.items p.whole
-    (record {
-      ok = c.in_ok-no.ensures.ok;
-      whole = c.in_ok-no.ensures.whole;
-      pinned = c.in_ok-no.ensures.pinned;
-      given = c.in_ok-no.ensures.given;
-      fresh = c.in_ok-no.ensures.fresh;
-      lists = c.in_ok-no.ensures.lists;
-      same = c.pin.ensures.same;
-      shelf = c.pin.ensures.shelf;
-      later = (c.pin.ensures.causes core.0 core.1).later;
-      core = core;
-      range = c.ranges.set.fits;
-    })
-    (record {
-      releases = c.release.ensures.releases;
-      pins = c.release.ensures.pins;
-      any_moment = c.release.ensures.any_moment;
-      within = c.release.ensures.within;
-      others = c.release.ensures.others;
-      tells = c.release.ensures.tells;
-      gets = c.release.ensures.gets;
-      later = c.release.ensures.later;
-      same = c.release.ensures.same;
-    })
+    stopped_gone c.args.keeper.now c.pin.new.self c.copy_pinned-copied.new.keeper c.release.new.self (told c.args.sink.now) (told c.copy_pinned-copied.new.sink) c.args.set c.args.version c.args.slots c.keeps_some_core.ensures c.ranges.set.fits p c.in_ok-no.ensures c.release.ensures
     c.in-Err.fault
-    (subst (λ (o : Option Whole). IsStopped c.pin.new.self c.copy_pinned-copied.new.keeper p.no (told c.args.sink.now) (told c.copy_pinned-copied.new.sink) p.spots.items o (IsAtMostLeast (requests (map (λ q. q.id) p.spots.items)) c.args.slots) c.in-Err.fault) c.whole_of-whole.ensures c.in-Err.ensures.err)
+    (subst (λ (o : Option Whole). IsRestoreStopped c.pin.new.self c.copy_pinned-copied.new.keeper p.no (told c.args.sink.now) (told c.copy_pinned-copied.new.sink) p.spots.items o (IsAtMostLeast (requests (map (λ q. q.id) p.spots.items)) c.args.slots) c.in-Err.fault) c.whole_of-whole.ensures c.in-Err.ensures.err)

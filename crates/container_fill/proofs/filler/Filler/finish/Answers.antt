@@ -1,4 +1,4 @@
-use Rattle.std.proofs.Common.{◌≡◌, ℕ, List, [], length, ap, ◌∙◌, refl, option_to_list}
+use Rattle.std.proofs.Common.{◌≡◌, ℕ, List, length, ap, ◌∙◌, refl, option_to_list}
 use Rattle.vault_types.specs.declared.How.{How}
 use Rattle.vault_types.specs.Names.{NamedChunk}
 use Rattle.vault_types.specs.Tables.{Container}

@@ -1,5 +1,5 @@
 use Rattle.std.proofs.Common.{◌≡◌, ◌-◌, length}
-use Rattle.restore_assembler.specs.Progress.{IsGoing, Advances}
+use Rattle.restore_assembler.specs.Progress.{IsProgress, Advances}
 use Rattle.restore_assembler.proofs.progress.Progress.advance.Given as goal
 
 abbrev pub decreases-loop-self : goal.decreases-loop-self
@@ -12,6 +12,6 @@ invariant-loop-self g l =
       spots : l.self.spots ≡ l.fn.self.spots;
       slots : l.self.slots ≡ l.fn.self.slots;
       whole : l.self.whole ≡ l.fn.self.whole;
-      going : IsGoing l.self;
+      going : IsProgress l.self;
       advances : Advances l.fn.self l.self (s.told l.fn.sink) (s.told l.sink);
     }

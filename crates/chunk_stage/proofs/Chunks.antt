@@ -21,7 +21,7 @@ use Rattle.vault_types.specs.Cuts.{settled_len, unsettled}
 use Rattle.vault_types.proofs.PartsLemmas.{parts-append}
 use Rattle.vault_types.proofs.FeedLemmas.{cut_more}
 use Rattle.vault_types.specs.JobRanges.{IsCuttable}
-use Rattle.stream_cutter.proofs.Sizes.{stable}
+use Rattle.vault_types.proofs.CutLemmas.{settled_len-stable}
 use Rattle.std.specs.List.{concat}
 use Rattle.std.proofs.lemmas.List.Folds.{concat-append}
 use Rattle.std.proofs.lemmas.Bool.Decides.{nat_tests}
@@ -87,7 +87,7 @@ within limit count e = step (nat_le count limit) refl e
 -- a want of memory at a read
 pub short_read : (c : Cutting) (limit : ℕ) (reads : List (List ℕ)) (x : List ℕ) (k : Chunker) (count : ℕ) → IsCuttable k.cutting → IsOpen c limit reads k count → IsChunking c limit (reads ++ x ∷ []) None (settled (concat reads) c) memory
 short_read c limit reads x k count h o =
-    let s = stable c (subst IsCuttable o.cutting h) in
+    let s = settled_len-stable c (subst IsCuttable o.cutting h) in
     let more : IsFront (settled (concat reads) c) (settled (concat (reads ++ x ∷ [])) c) =
     (parts (settled_len c) (rest (settled_len c) (concat reads) ++ x), sym (parts-append (settled_len c) s (concat reads) x) ∙ ap (λ b. settled b c) (sym (one_more reads x))) in
     let few = o.few in let counted = o.counted in
@@ -96,7 +96,7 @@ short_read c limit reads x k count h o =
 -- the chunks of a piece, as a list that its vectors make
 pub cut_of : (k m : Chunker) (piece : List ℕ) (more : List (List ℕ)) → IsCuttable k.cutting → m.cutting ≡ k.cutting → m.held ≡ unsettled (k.held ++ piece) k.cutting → more ≡ settled (k.held ++ piece) k.cutting
     → (gone : List (List ℕ)) (x : List ℕ) → HasCut k gone x → HasCut m (gone ++ more) (x ++ piece)
-cut_of k m piece more h same held is gone x cut = subst (λ l. HasCut m (gone ++ l) (x ++ piece)) (sym is) (cut_more k m (stable k.cutting h) piece same held gone x cut)
+cut_of k m piece more h same held is gone x cut = subst (λ l. HasCut m (gone ++ l) (x ++ piece)) (sym is) (cut_more k m (settled_len-stable k.cutting h) piece same held gone x cut)
 
 pub if_ok : {T E : Type 0} {P Q : T → Type 0} (r : Result T E) → ((x : T) → P x → Q x) → IfOk r P → IfOk r Q
 if_ok (Ok x) f p = f x p
@@ -141,7 +141,7 @@ stays_due limit xs ys parts over l k is f s = subst (λ q. Sent (take limit q) (
 -- more items only add chunks
 pub more_due : (c : Cutting) → IsCuttable c → (reads : List (List ℕ)) (item : Result (List ℕ) Last) → IsFront (settled (concat reads) c) (chunks_of c (reads ++ read_of item) (last_of item))
 more_due c h reads (Ok x) =
-    (parts (settled_len c) (rest (settled_len c) (concat reads) ++ x), sym (parts-append (settled_len c) (stable c h) (concat reads) x) ∙ ap (λ b. settled b c) (sym (one_more reads x)))
+    (parts (settled_len c) (rest (settled_len c) (concat reads) ++ x), sym (parts-append (settled_len c) (settled_len-stable c h) (concat reads) x) ∙ ap (λ b. settled b c) (sym (one_more reads x)))
 more_due c h reads (Err l) = subst (λ q. IsFront (settled (concat reads) c) (chunks_of c q (Some l))) (sym (append-nil reads)) (step (is_end (Some l)))
   where
     step : (b : Bool) → IsFront (settled (concat reads) c) (cond b (cuts (concat reads) c) (settled (concat reads) c))

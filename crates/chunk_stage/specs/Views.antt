@@ -2,7 +2,7 @@
 -- last item that it took, if it came, whether all that it has to send so far was sent, and its holder.
 use Rattle.std.specs.Prelude.{ℕ, Bool, List, Option}
 use Rattle.stage_queue.specs.Ends.{Sender, Receiver}
-use Rattle.stop_word.specs.Holders.{Held}
+use Rattle.stop_word.specs.Holders.{HolderState}
 use Rattle.vault_types.specs.declared.Cutting.{Cutting}
 use Rattle.vault_types.specs.declared.Flow.{Flow}
 use Rattle.stage_flows.specs.declared.Last.{Last}
@@ -14,4 +14,4 @@ pub record Chunking : Type 0 where
   pub lanes : List (Sender (Flow (List ℕ)))
   pub over : Option Last
   pub through : Bool
-  pub holder : Held
+  pub holder : HolderState

@@ -3,7 +3,7 @@
 -- was sent, and its holder.
 use Rattle.std.specs.Prelude.{ℕ, Bool, List, Option}
 use Rattle.stage_queue.specs.Ends.{Sender, Receiver}
-use Rattle.stop_word.specs.Holders.{Held}
+use Rattle.stop_word.specs.Holders.{HolderState}
 use Rattle.vault_types.specs.declared.Flow.{Flow}
 use Rattle.vault_types.specs.declared.Fp.{Fp}
 use Rattle.vault_types.specs.Decide.{Rules}
@@ -18,4 +18,4 @@ pub record Deciding : Type 0 where
   pub outs : List (Sender (Flow Decided))
   pub over : Option Last
   pub through : Bool
-  pub holder : Held
+  pub holder : HolderState

@@ -1,7 +1,7 @@
 -- What the naming stage keeps: it has sent, or holds ready, each chunk of what it took.
 use Rattle.std.specs.Prelude.{◌≡◌, ℕ, List, filter, Option, map}
 use Rattle.stage_queue.specs.Ends.{Sender, Receiver}
-use Rattle.stop_word.specs.Holders.{Held}
+use Rattle.stop_word.specs.Holders.{HolderState}
 use Rattle.vault_types.specs.declared.Flow.{Flow}
 use Rattle.vault_types.specs.declared.Flow.TheVariants.{Part, End, Failed, Stopped}
 use Rattle.vault_types.specs.Names.{NamedChunk, named_chunk}
@@ -16,7 +16,7 @@ pub record Hashing : Type 0 where
   pub to : Sender (Flow (List ℕ))
   pub ready : List (Flow (List ℕ))
   pub over : Option Last
-  pub holder : Held
+  pub holder : HolderState
 
 pub record IsHashed (taken out : List (Flow (List ℕ))) (over : Option Last) : Type 0 where
   pub parts : List (List ℕ)

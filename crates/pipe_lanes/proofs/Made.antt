@@ -3,7 +3,7 @@ use Rattle.std.proofs.Common.{◌≡◌, false, List, [], ◌∷◌, ◌++◌, m
 use Rattle.std.specs.List.{AllByRecursion}
 use Rattle.std.proofs.lemmas.List.{map-append}
 use Rattle.stage_queue.specs.Ends.{Sender, Receiver}
-use Rattle.stop_word.specs.Holders.{Held, Family}
+use Rattle.stop_word.specs.Holders.{HolderState, Family}
 use Rattle.vault_types.specs.declared.Flow.{Flow}
 use Rattle.stage_lanes.specs.Steps.{lines_of, ends_of}
 use Rattle.pipe_lanes.specs.Lanes.{LaneView, AreEnds, HaveEnds, AreRooms, AreNew}
@@ -42,7 +42,7 @@ rooms_push ns ls fs t l r h e u = record {
 }
 
 -- the next holder goes to the next lane
-pub new_next : (f : Family) (ls : List LaneView) (l : LaneView) (hs : List Held) (h : Held) → AreNew f (map (λ x. x.holder) ls) → AreNew f (hs ++ h ∷ []) → l.holder ≡ h
+pub new_next : (f : Family) (ls : List LaneView) (l : LaneView) (hs : List HolderState) (h : HolderState) → AreNew f (map (λ x. x.holder) ls) → AreNew f (hs ++ h ∷ []) → l.holder ≡ h
     → AreNew f (map (λ x. x.holder) (ls ++ l ∷ [])) × AreNew f hs
 new_next f ls l hs h a b e =
     let s = all_split (λ k. (k.family ≡ f) × (k.raised ≡ false) × (k.saw ≡ false)) hs (h ∷ []) b in (

@@ -22,7 +22,8 @@ use Rattle.stage_flows.specs.declared.Last.TheVariants as last
 use Rattle.stage_flows.specs.Runs.{run, is_end, Begins, Sent}
 use Rattle.stage_flows.proofs.Running.{run-one, run-front, run-begins}
 use Rattle.vault_types.specs.JobRanges.{IsCuttable}
-use Rattle.stream_cutter.proofs.Sizes.{settled_chunks, last_chunks, stable}
+use Rattle.stream_cutter.proofs.Sizes.{settled_chunks, last_chunks}
+use Rattle.vault_types.proofs.CutLemmas.{settled_len-stable}
 use Rattle.stage_rules.specs.Chunking.{chunks_of, limited_last}
 use Rattle.stage_rules.proofs.Lasts.{From, taken, many, short, comes_from}
 use Rattle.pipe_laws.specs.Pipe.{Pipe, ReadBack, AsOne, IsPipeFault}
@@ -63,7 +64,7 @@ settled_front : (c : Cutting) → IsCuttable c → (reads all : List (List ℕ))
 settled_front c h reads all f =
     let bytes : concat reads ++ concat f.0 ≡ concat all = sym (concat-append reads f.0) ∙ ap concat f.1 in (
       parts (settled_len c) (rest (settled_len c) (concat reads) ++ concat f.0),
-      sym (parts-append (settled_len c) (stable c h) (concat reads) (concat f.0)) ∙ ap (λ b. settled b c) bytes,
+      sym (parts-append (settled_len c) (settled_len-stable c h) (concat reads) (concat f.0)) ∙ ap (λ b. settled b c) bytes,
     )
 
 sent_front : {X : Type 0} (due parts : List X) (m l : Option Last) → Sent due m parts l → IsFront parts due

@@ -6,7 +6,7 @@ use Rattle.stage_queue.specs.Ends.{Sender, Receiver}
 use Rattle.vault_types.specs.declared.Flow.{Flow}
 use Rattle.rewrite_stage.specs.declared.Decided.{Decided}
 use Rattle.atomic_table.specs.Seated.{TableId}
-use Rattle.stop_word.specs.Holders.{Held, Family}
+use Rattle.stop_word.specs.Holders.{HolderState, Family}
 use Rattle.vault_types.specs.JobRanges.{IsCuttable}
 use Rattle.source_reads.specs.Reading.{Reading}
 use Rattle.sum_stage.specs.Summing.{Summing}
@@ -15,7 +15,7 @@ use Rattle.decide_stage.specs.Views.{Deciding}
 use Rattle.stage_lanes.specs.Steps.{lines_of}
 use Rattle.pipe_lanes.specs.Lanes.{LaneView, HaveEnds, AreRooms, AreNew}
 
-pub record IsRunning {I : Type 0} (reads sums ends : TableId) (read : Reading I) (sum : Summing) (chunk : Chunking) (decide : Deciding) (lanes : List LaneView) (far : TableId) (own : Held) (len room : ℕ) (back : List Held) : Type 0 where
+pub record IsRunning {I : Type 0} (reads sums ends : TableId) (read : Reading I) (sum : Summing) (chunk : Chunking) (decide : Deciding) (lanes : List LaneView) (far : TableId) (own : HolderState) (len room : ℕ) (back : List HolderState) : Type 0 where
   pub first_line : (read.to.line ≡ reads) × (sum.from.line ≡ reads)
   pub second_line : (sum.to.line ≡ sums) × (chunk.from.line ≡ sums)
   pub last_line : (lines_of decide.outs ≡ ends ∷ []) × (far ≡ ends)
@@ -34,8 +34,8 @@ pub record IsRunning {I : Type 0} (reads sums ends : TableId) (read : Reading I)
 
 -- what a job takes of memory, of which nothing was used
 pub record IsReady (reads sums ends : TableId) (read_to : Sender (Flow (List ℕ))) (sum_from : Receiver (Flow (List ℕ))) (sum_to : Sender (Flow (List ℕ))) (chunk_from : Receiver (Flow (List ℕ)))
-    (outs : List (Sender (Flow Decided))) (far : Receiver (Flow Decided)) (near : List (Sender (Flow (List ℕ)))) (rooms : List LaneView) (lane_ends : List (Receiver (Flow (List ℕ)))) (hands : List Held)
-    (lanes : List LaneView) (lanes_len lanes_room : ℕ) (back : List Held) (len room : ℕ) (sparse copy : List ℕ) : Type 0 where
+    (outs : List (Sender (Flow Decided))) (far : Receiver (Flow Decided)) (near : List (Sender (Flow (List ℕ)))) (rooms : List LaneView) (lane_ends : List (Receiver (Flow (List ℕ)))) (hands : List HolderState)
+    (lanes : List LaneView) (lanes_len lanes_room : ℕ) (back : List HolderState) (len room : ℕ) (sparse copy : List ℕ) : Type 0 where
   pub first_line : (read_to.line ≡ reads) × (sum_from.line ≡ reads)
   pub first_unused : (read_to.sent ≡ []) × (sum_from.taken ≡ [])
   pub second_line : (sum_to.line ≡ sums) × (chunk_from.line ≡ sums)

@@ -89,7 +89,7 @@ impl<I: Source> ReadStage<I> {
 impl<I: Source + Drop> Stage for ReadStage<I> {
     ghost use Rattle.std.specs.Prelude.{refl};
     ghost use Rattle.std.proofs.Common.{◌∙◌};
-    ghost use Rattle.stop_word.specs.Holders.{Held};
+    ghost use Rattle.stop_word.specs.Holders.{HolderState};
     ghost use Rattle.source_reads.proofs.Going.{Advances_refl, Advances_trans};
 
     ghost same = { λ a b. (a.limit ≡ b.limit) × (a.to.line ≡ b.to.line) × (a.holder.family ≡ b.holder.family) × (a.holder.number ≡ b.holder.number) × (a.holder.raised ≡ b.holder.raised) × Advances (I.told a.source) (a.to.sent ++ a.ready) (I.told b.source) (b.to.sent ++ b.ready) };

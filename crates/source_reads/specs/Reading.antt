@@ -2,7 +2,7 @@
 use Rattle.std.specs.Prelude.{◌≡◌, ◌<◌, ◌≤◌, ◌*◌, ℕ, Bool, true, false, List, [], ◌∷◌, ◌++◌, length, Option, None, Some, IfSome}
 use Rattle.std.specs.List.{concat, AllByRecursion}
 use Rattle.stage_queue.specs.Ends.{Sender}
-use Rattle.stop_word.specs.Holders.{Held}
+use Rattle.stop_word.specs.Holders.{HolderState}
 use Rattle.vault_traits.specs.Told.{SourceTold, Gives}
 use Rattle.vault_traits.specs.Counts.{Rose}
 use Rattle.vault_types.specs.declared.Fault.{Fault}
@@ -23,7 +23,7 @@ pub record Reading (I : Type 0) : Type 0 where
   pub ready : List (Flow (List ℕ))
   pub over : Option Last
   pub read : ℕ
-  pub holder : Held
+  pub holder : HolderState
 
 -- nothing is left
 abbrev pub IsAtEnd : SourceTold → Type 0

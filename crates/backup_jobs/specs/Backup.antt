@@ -1,5 +1,5 @@
 -- A backup into a store.
-use Rattle.std.specs.Prelude.{◌≡◌, ◌⊎◌, ◌≤◌, ◌<◌, ◌+◌, ◌*◌, ℕ, true, List, [], length, Contains, Option, None, IfSome, IsSome, IsSomeAnd, OnOk, IfOk, IfErr, Result, Err, Some}
+use Rattle.std.specs.Prelude.{◌≡◌, ◌⊎◌, ◌≤◌, ◌<◌, ◌+◌, ◌*◌, ℕ, true, List, length, Contains, Option, None, IfSome, IsSome, IsSomeAnd, OnOk, IfOk, IfErr, Result, Err, Some}
 use Rattle.vault_types.specs.declared.JobConfig.{JobConfig}
 use Rattle.vault_types.specs.declared.Limits.{Limits}
 use Rattle.vault_types.specs.declared.Name.{Name}

@@ -1,10 +1,8 @@
 -- Decisions come in turn: what is own was written before, and what is written was not.
 use Rattle.std.proofs.Common.{◌≡◌, ℕ, suc, Bool, true, false, List, [], ◌∷◌, ◌++◌, map, length, refl, sym, ap, ◌∙◌, subst, append_assoc, append-nil, Option, Some, None}
-use Rattle.std.specs.Prelude.{flat_map}
-use Rattle.std.proofs.lemmas.List.{map-append, length-map}
+use Rattle.std.proofs.lemmas.List.{map-append}
 use Rattle.vault_types.specs.declared.Fp.{Fp}
 use Rattle.vault_types.specs.declared.How.{How}
-use Rattle.vault_types.specs.declared.How.TheVariants.{Old, Own, Write}
 use Rattle.vault_types.specs.Names.{NamedChunk}
 use Rattle.vault_types.specs.Decide.{Rules, Looked, look_up, is_written, how, allowed_id, decisions_in, decisions_of, decisions, decide, segments_of}
 use Rattle.vault_types.proofs.BackupLemmas.{joined-pieces}

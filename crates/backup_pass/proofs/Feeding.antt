@@ -1,11 +1,11 @@
 -- A pass that is fed a piece, and ended.
-use Rattle.std.proofs.Common.{◌≡◌, ℕ, ◌+◌, ◌<◌, ◌≤◌, List, [], ◌∷◌, ◌++◌, map, length, refl, sym, ap, ◌∙◌, subst, append_assoc, append-nil, arith, length-append, Option, Some, None}
+use Rattle.std.proofs.Common.{◌≡◌, ℕ, ◌+◌, ◌≤◌, List, [], ◌∷◌, ◌++◌, map, length, sym, ap, ◌∙◌, subst, append_assoc, append-nil, arith, length-append, Option, Some, None}
 use Rattle.std.specs.Prelude.{filter, option_to_list, Result, Ok, Err, OnOk, IfErr, Vec}
 use Rattle.std.proofs.lemmas.List.{map-append, length-map}
 use Rattle.std.proofs.lemmas.List.Elements.{filter-append}
 use Rattle.vault_types.specs.declared.Fault.{Fault}
 use Rattle.vault_types.specs.declared.Fault.TheVariants as fault
-use Rattle.vault_types.specs.Cuts.{HasCut, settled, unsettled, only_bytes, cuts}
+use Rattle.vault_types.specs.Cuts.{HasCut}
 use Rattle.vault_types.specs.Names.{NamedChunk, named_chunk}
 use Rattle.vault_types.specs.Stages.{is_chunk}
 use Rattle.vault_types.specs.Tables.{Container}
@@ -15,7 +15,6 @@ use Rattle.backup_pass.specs.declared.placer.Placer.{Placer}
 use Rattle.backup_pass.specs.declared.pass.Pass.{Pass}
 use Rattle.backup_pass.specs.Placing.{HasPlaced}
 use Rattle.backup_pass.specs.Passing.{HasPassed, IsPassFault, bytes_of_all}
-use Rattle.stream_cutter.proofs.Sizes.{settled_chunks, last_chunks}
 
 -- one vector more
 

@@ -1,5 +1,5 @@
 -- A filler's history, with one decision more or a segment more.
-use Rattle.std.proofs.Common.{◌≡◌, ℕ, List, [], ◌∷◌, ◌++◌, map, refl, sym, ap, ◌∙◌, subst, append_assoc, append-nil, Option, Some, None}
+use Rattle.std.proofs.Common.{◌≡◌, ℕ, List, [], ◌∷◌, ◌++◌, map, refl, sym, ap, ◌∙◌, subst, append_assoc, Option}
 use Rattle.std.specs.Prelude.{Result, Ok, Err, OnOk, option_to_list}
 use Rattle.std.proofs.lemmas.List.{map-append}
 use Rattle.vault_types.specs.declared.Fp.{Fp}

@@ -1,7 +1,5 @@
 -- The open segment takes a chunk, or is closed before it.
-use Rattle.std.proofs.Common.{◌≡◌, ℕ, List, [], ◌∷◌, ◌++◌, map, length, refl, sym, ap, ◌∙◌, subst, append_assoc, append-nil}
-use Rattle.std.proofs.lemmas.List.{map-append}
-use Rattle.segmenter.specs.declared.Cut.{Cut}
+use Rattle.std.proofs.Common.{◌≡◌, List, [], ◌∷◌, ◌++◌, map, refl, sym, ap, ◌∙◌}
 use Rattle.segmenter.specs.declared.Cut.TheVariants.{Same, NewBefore}
 use Rattle.segmenter.specs.Segments.{segments_of as segments_by, in_last, with_next}
 use Rattle.segmenter.proofs.Shapes.{pieces-next}

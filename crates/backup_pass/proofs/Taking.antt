@@ -1,15 +1,15 @@
 -- A placer that takes a chunk.
-use Rattle.std.proofs.Common.{◌≡◌, ℕ, List, [], ◌∷◌, ◌++◌, map, length, refl, sym, ap, ◌∙◌, subst, append-nil}
+use Rattle.std.proofs.Common.{◌≡◌, ℕ, List, [], ◌∷◌, ◌++◌, map, length, refl, sym, ap, ◌∙◌, subst}
 use Rattle.std.proofs.lemmas.List.{map-append}
 use Rattle.std.specs.Prelude.{Option}
 use Rattle.segmenter.specs.declared.Cut.{Cut}
 use Rattle.segmenter.specs.declared.Cut.TheVariants.{Same, NewBefore}
-use Rattle.segmenter.specs.Segments.{Segmenting, HasPushed, segments_of as segments_by, with_next}
+use Rattle.segmenter.specs.Segments.{HasPushed, segments_of as segments_by, with_next}
 use Rattle.vault_types.specs.declared.Fp.{Fp}
 use Rattle.vault_types.specs.declared.How.{How}
 use Rattle.vault_types.specs.Names.{NamedChunk, named_chunk}
 use Rattle.vault_types.specs.Tables.{Container}
-use Rattle.vault_types.specs.Decide.{Rules, look_up, decisions_of, segments_of, decide}
+use Rattle.vault_types.specs.Decide.{Rules, look_up, decisions_of, decide}
 use Rattle.vault_types.proofs.BackupLemmas.{joined-pieces}
 use Rattle.fp_index.specs.Index.{found_in}
 use Rattle.rewrite_stage.specs.Deciding.{Deciding, HasDecided, looked_up}

@@ -17,9 +17,11 @@ use Rattle.vault_types.specs.JobRanges.{IsCuttable}
 use Rattle.stage_rules.specs.Chunking.{IsChunking, IsOpen, IsOwnFault}
 
 -- a chunker that goes on, with what was given so far; where there is none, the last item was given
-abbrev pub GoesOn : Cutting → ℕ → List (List ℕ) → Option Last → List (List ℕ) → Option Last → Option Chunker → ℕ → Type 0
+abbrev pub GoesOn : Cutting → ℕ → List (List ℕ) → Option Last → List (List ℕ) → Option Last
+    → Option Chunker → ℕ → Type 0
 GoesOn c limit reads over parts l None count = IsSome l
-GoesOn c limit reads over parts l (Some k) count = IsOpen c limit reads k count × (l ≡ None) × (over ≡ None) × (parts ≡ settled (concat reads) c)
+GoesOn c limit reads over parts l (Some k) count = IsOpen c limit reads k count × (l ≡ None)
+    × (over ≡ None) × (parts ≡ settled (concat reads) c)
 
 -- of these reads, and this last item behind them, if it came, the stage has dealt what is due, and
 -- raised the word exactly where it dealt a fault of its own
@@ -47,7 +49,8 @@ pub record IsBack (c : Cutting) (limit : ℕ) (taken : List (Flow (List ℕ))) (
   pub parts : List (List ℕ)
   pub l : Option Last
   pub chunking : IsChunking c limit reads over parts l
-  pub lines : (j : ℕ) (t : Sender (Flow (List ℕ))) → slice_get lanes j ≡ Some t → IsFront t.sent (run (lane_parts (length lanes) 0 j parts) l)
+  pub lines : (j : ℕ) (t : Sender (Flow (List ℕ))) → slice_get lanes j ≡ Some t
+      → IsFront t.sent (run (lane_parts (length lanes) 0 j parts) l)
   pub own : Option Fault
   pub own_is : IsOwnFault own over l
   pub raised_is : raised ≡ is_some own

@@ -32,7 +32,8 @@ pub(crate) fn cut_more(
 ) -> Result<Vec<Bytes>, Memory>
     requires { IsCuttable cutter.old.cutting }
     ensures cutting { OnOk result (cutter.new.cutting ≡ cutter.old.cutting) }
-    ensures cut { (gone : List (List ℕ)) (x : List ℕ) → HasCut cutter.old gone x → IfOk result (λ more. HasCut cutter.new (gone ++ more.items) (x ++ bytes.now)) }
+    ensures cut { (gone : List (List ℕ)) (x : List ℕ) → HasCut cutter.old gone x
+        → IfOk result (λ more. HasCut cutter.new (gone ++ more.items) (x ++ bytes.now)) }
 {
     let mut chunks = Vec::new(alloc);
     cutter.feed(alloc, bytes, &mut chunks)?;
@@ -41,7 +42,8 @@ pub(crate) fn cut_more(
 
 // The chunks that are left at the end.
 pub(crate) fn cut_last(alloc: Global, cutter: Cutter) -> Result<Vec<Bytes>, Memory>
-    ensures { (gone : List (List ℕ)) (x : List ℕ) → HasCut cutter gone x → IfOk result (λ more. gone ++ more.items ≡ cuts x cutter.cutting) }
+    ensures { (gone : List (List ℕ)) (x : List ℕ) → HasCut cutter gone x
+        → IfOk result (λ more. gone ++ more.items ≡ cuts x cutter.cutting) }
 {
     let mut chunks = Vec::new(alloc);
     cutter.finish(&mut chunks)?;
@@ -58,8 +60,10 @@ pub(crate) fn limited(
 ) -> Option<Last>
     requires { count.old ≤ limit }
     ensures last { result ≡ limited_last limit (count.old + length chunks.old.items) last }
-    ensures chunks { (gone : List (List ℕ)) → count.old ≡ length gone → gone ++ chunks.new.items ≡ take limit (gone ++ chunks.old.items) }
-    ensures count { count.old + length chunks.old.items ≤ limit → count.new ≡ count.old + length chunks.old.items }
+    ensures chunks { (gone : List (List ℕ)) → count.old ≡ length gone
+        → gone ++ chunks.new.items ≡ take limit (gone ++ chunks.old.items) }
+    ensures count { count.old + length chunks.old.items ≤ limit
+        → count.new ≡ count.old + length chunks.old.items }
     ensures few { count.new ≤ limit }
 {
     let room = (limit - *count) as usize;
@@ -163,7 +167,8 @@ pub(crate) fn step(
     ensures given { (c : Way) (reads : List (List ℕ)) → IsOpen c limit reads cutter count.old
         → IsChunking c limit (reads ++ read_of item) (last_of item) (settled (concat reads) c ++ result.1.parts.items) result.1.last }
     ensures open { (c : Way) (reads : List (List ℕ)) → IsOpen c limit reads cutter count.old
-        → IfSome result.0 (λ k. (result.1.last ≡ None) × (last_of item ≡ None) × IsOpen c limit (reads ++ read_of item) k count.new) }
+        → IfSome result.0 (λ k. (result.1.last ≡ None) × (last_of item ≡ None)
+        × IsOpen c limit (reads ++ read_of item) k count.new) }
     ensures over { IfNone result.0 (IsSome result.1.last) }
     ensures own { IsOwnFault result.1.own (last_of item) result.1.last }
 {

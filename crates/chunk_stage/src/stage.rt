@@ -52,11 +52,15 @@ fn advance(
     holder: &mut Holder,
     item: Result<Bytes, Last>,
 )
-    requires { (c : Way) × (reads : List (List ℕ)) × HasChunked c limit reads None cutter.old count.old dealer.old holder.old.raised × (dealer.old.ready ≡ []) }
-    ensures chunked { (c : Way) (reads : List (List ℕ)) → HasChunked c limit reads None cutter.old count.old dealer.old holder.old.raised
+    requires { (c : Way) × (reads : List (List ℕ))
+        × HasChunked c limit reads None cutter.old count.old dealer.old holder.old.raised
+        × (dealer.old.ready ≡ []) }
+    ensures chunked { (c : Way) (reads : List (List ℕ))
+        → HasChunked c limit reads None cutter.old count.old dealer.old holder.old.raised
         → HasChunked c limit (reads ++ read_of item) (last_of item) cutter.new count.new dealer.new holder.new.raised }
     ensures lanes { dealer.new.lanes.items ≡ dealer.old.lanes.items }
-    ensures holder { (holder.new.family ≡ holder.old.family) × (holder.new.number ≡ holder.old.number) × (holder.new.saw ≡ holder.old.saw) }
+    ensures holder { (holder.new.family ≡ holder.old.family) × (holder.new.number ≡ holder.old.number)
+        × (holder.new.saw ≡ holder.old.saw) }
 {
     let Some(open) = cutter.take() else {
         return;
@@ -91,7 +95,15 @@ impl Model for ChunkStage {
 
     ghost Value = { Chunking };
 
-    ghost view = { λ s. record { cutting = s.cutting; limit = s.limit; from = s.from; lanes = s.dealer.lanes.items; over = s.over; through = is_through s.dealer; holder = s.holder } };
+    ghost view = { λ s. record {
+      cutting = s.cutting;
+      limit = s.limit;
+      from = s.from;
+      lanes = s.dealer.lanes.items;
+      over = s.over;
+      through = is_through s.dealer;
+      holder = s.holder;
+    } };
 
     ghost invariant = { λ s. HasTaken s.cutting s.limit s.from.taken s.over s.cutter s.count s.dealer s.holder.raised };
 }
@@ -113,7 +125,15 @@ impl ChunkStage {
         requires some { 0 < length lanes.items }
         requires sent { All (λ t. t.sent ≡ []) lanes.items }
         requires raised { holder.raised ≡ false }
-        ensures { result ≡ record { cutting = cutting; limit = limit; from = from; lanes = lanes.items; over = None; through = true; holder = holder } }
+        ensures { result ≡ record {
+          cutting = cutting;
+          limit = limit;
+          from = from;
+          lanes = lanes.items;
+          over = None;
+          through = true;
+          holder = holder;
+        } }
     {
         let dealer = Dealer::new(alloc, lanes);
         ChunkStage {
@@ -148,7 +168,9 @@ impl Stage for ChunkStage {
     ghost use Rattle.std.specs.Prelude.{refl, map};
     ghost use Rattle.std.proofs.Common.{◌∙◌};
 
-    ghost same = { λ a b. (a.cutting ≡ b.cutting) × (a.limit ≡ b.limit) × (a.from.line ≡ b.from.line) × (lines_of a.lanes ≡ lines_of b.lanes) × (a.holder.family ≡ b.holder.family) × (a.holder.number ≡ b.holder.number) × (a.holder.saw ≡ b.holder.saw) };
+    ghost same = { λ a b. (a.cutting ≡ b.cutting) × (a.limit ≡ b.limit) × (a.from.line ≡ b.from.line)
+        × (lines_of a.lanes ≡ lines_of b.lanes) × (a.holder.family ≡ b.holder.family)
+        × (a.holder.number ≡ b.holder.number) × (a.holder.saw ≡ b.holder.saw) };
 
     ghost turned = { λ a turn b. Tells turn (length a.from.taken + all_sent a.lanes) (length b.from.taken + all_sent b.lanes) (is_some b.over && b.through) };
 

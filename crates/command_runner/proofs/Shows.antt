@@ -1,5 +1,5 @@
 -- What showing a recipe is.
-use Rattle.std.proofs.Common.{◌≡◌, inr, ◌≤◌, ℕ, true, false, IsTrue, List, [], ◌∷◌, length, Option, Some, None, refl, sym, ap, subst, arith, ◌∙◌}
+use Rattle.std.proofs.Common.{◌≡◌, ◌≤◌, ℕ, true, false, IsTrue, List, [], ◌∷◌, length, Option, Some, None, refl, sym, ap, subst, arith, ◌∙◌}
 use Rattle.std.specs.Prelude.{◌&&◌, nat_eq, IsSome, IsSomeAnd}
 use Rattle.std.proofs.lemmas.List.{append-nil}
 use Rattle.vault_types.specs.declared.Answer.{Answer}

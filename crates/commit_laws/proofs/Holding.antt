@@ -23,7 +23,7 @@ use Rattle.state_laws.specs.Parts.{HeldIfTold, CanChange, change}
 use Rattle.state_laws.proofs.Standing.{keeps_container, needs_recipe, needs_pinned, needs_container}
 use Rattle.state_laws.proofs.Changing.{version_high, latest_low, recipe_same, recipe_no_floor, recipe_no_table, recipe_no_payload, told_more, told_with, told_same}
 use Rattle.state_laws.proofs.Growing as grown
-use Rattle.state_laws.proofs.Growing.{floor_pos, version_back, sets_same, grown_needs_new, grown_stands}
+use Rattle.state_laws.proofs.Growing.{floor_pos, version_back, sets_same, grown_needs_new}
 use Rattle.commit_laws.specs.Laws.{AreStraysLeft}
 use Rattle.commit_laws.proofs.Listing.{some_same, no_member}
 use Rattle.commit_laws.proofs.Committing.{job_alone, commit_core, commit_is_change}

@@ -33,20 +33,26 @@ last_in (Ok x) = None
 last_in (Err l) = Some l
 
 -- a gatherer that goes on; where it does not, the last item was given
-abbrev pub GoesOn : Bool → Rules → ℕ → List NamedChunk → Option Last → List (NamedChunk × How) → Option Last → Gatherer → ℕ → Type 0
+abbrev pub GoesOn : Bool → Rules → ℕ → List NamedChunk → Option Last → List (NamedChunk × How)
+    → Option Last → Gatherer → ℕ → Type 0
 GoesOn false r limit chunks over parts l g count = IsSome l
-GoesOn true r limit chunks over parts l g count = HasGathered g r chunks parts × (count ≡ length chunks) × (count ≤ limit) × (l ≡ None) × (over ≡ None)
+GoesOn true r limit chunks over parts l g count = HasGathered g r chunks parts × (count ≡ length chunks)
+    × (count ≤ limit) × (l ≡ None) × (over ≡ None)
 
 -- where memory was short: what was given begins what is decided of the complete segments of the chunks
 -- up to there and any that came later
-pub record ShortAt (find : Fp → Option ℕ) (r : Rules) (limit : ℕ) (chunks : List NamedChunk) (parts : List (NamedChunk × How)) : Type 0 where
+pub record ShortAt (find : Fp
+    → Option ℕ) (r : Rules) (limit : ℕ) (chunks : List NamedChunk) (parts : List (NamedChunk
+    × How)) : Type 0 where
   pub base : List NamedChunk
   pub base_is : IsFront base chunks
   pub few : length base ≤ limit + 1
-  pub later : (more : List NamedChunk) → IsFront parts (decided_parts find r (complete_chunks r.config.segment (base ++ more)))
+  pub later : (more : List NamedChunk)
+      → IsFront parts (decided_parts find r (complete_chunks r.config.segment (base ++ more)))
 
 -- of these chunks, and this last item behind them, if it came, the stage has given what is due
-pub record HasJudged (index : List (Fp × List ℕ)) (r : Rules) (limit : ℕ) (chunks : List NamedChunk) (over : Option Last) (goes : Bool) (g : Gatherer) (count : ℕ) (d : Dealer Decided) (raised : Bool) : Type 0 where
+pub record HasJudged (index : List (Fp
+    × List ℕ)) (r : Rules) (limit : ℕ) (chunks : List NamedChunk) (over : Option Last) (goes : Bool) (g : Gatherer) (count : ℕ) (d : Dealer Decided) (raised : Bool) : Type 0 where
   pub index_is : index_of g ≡ index
   pub gone : List Decided
   pub l : Option Last
@@ -68,14 +74,17 @@ pub record HasTaken (r : Rules) (limit : ℕ) (p : Picker (List ℕ)) (goes : Bo
 -- what the ends of a stage say when it is back: what it took of its lanes in turn, what it decided
 -- of that, that what was sent begins it, and that it raised the word exactly where it sent a fault
 -- of its own
-pub record IsBack (find : Fp → Option ℕ) (r : Rules) (limit : ℕ) (lanes : List (Receiver (Flow (List ℕ)))) (over : Option Last) (outs : List (Sender (Flow Decided))) (raised : Bool) : Type 0 where
+pub record IsBack (find : Fp
+    → Option ℕ) (r : Rules) (limit : ℕ) (lanes : List (Receiver (Flow (List ℕ)))) (over : Option Last) (outs : List (Sender (Flow Decided))) (raised : Bool) : Type 0 where
   pub chunks : List (List ℕ)
-  pub picked : AllAt (λ (t : Receiver (Flow (List ℕ))). t.taken) lanes (picked_from (length lanes) chunks over)
+  pub picked : AllAt
+      (λ (t : Receiver (Flow (List ℕ))). t.taken) lanes (picked_from (length lanes) chunks over)
   pub gone : List Decided
   pub l : Option Last
   pub decided : IsDecidedBy find r limit (map named_chunk chunks) over (parts_of gone) l
   pub due : IsDeciding find r limit (map named_chunk chunks) over (parts_of gone) l
-  pub lines : (j : ℕ) (t : Sender (Flow Decided)) → slice_get outs j ≡ Some t → IsFront t.sent (run (lane_parts (length outs) 0 j gone) l)
+  pub lines : (j : ℕ) (t : Sender (Flow Decided)) → slice_get outs j ≡ Some t
+      → IsFront t.sent (run (lane_parts (length outs) 0 j gone) l)
   pub own : Option Fault
   pub own_is : IsOwnFault own over l
   pub raised_is : raised ≡ is_some own

@@ -49,15 +49,21 @@ pub(crate) fn take_chunk(
 ) -> Given
     requires { count.old ≤ limit }
     ensures index { index_of gatherer.new ≡ index_of gatherer.old }
-    ensures goes { (r : Rules) (chunks : List NamedChunk) (gone : List (NamedChunk × Hows)) → HasGathered gatherer.old r chunks gone → count.old ≡ length chunks
-        → result.last ≡ None → HasGathered gatherer.new r (chunks ++ named_chunk chunk ∷ []) (gone ++ parts_of result.parts.items) × (count.new ≡ length (chunks ++ named_chunk chunk ∷ [])) × (count.new ≤ limit) }
-    ensures front { (r : Rules) (chunks : List NamedChunk) (gone : List (NamedChunk × Hows)) → HasGathered gatherer.old r chunks gone → (more : List NamedChunk)
+    ensures goes { (r : Rules) (chunks : List NamedChunk) (gone : List (NamedChunk × Hows))
+        → HasGathered gatherer.old r chunks gone → count.old ≡ length chunks
+        → result.last ≡ None
+        → HasGathered gatherer.new r (chunks ++ named_chunk chunk ∷ []) (gone ++ parts_of result.parts.items) × (count.new ≡ length (chunks ++ named_chunk chunk ∷ [])) × (count.new ≤ limit) }
+    ensures front { (r : Rules) (chunks : List NamedChunk) (gone : List (NamedChunk × Hows))
+        → HasGathered gatherer.old r chunks gone → (more : List NamedChunk)
         → IsFront (gone ++ parts_of result.parts.items) (decided_parts (answers_of gatherer.old) r ((chunks ++ named_chunk chunk ∷ []) ++ more)) }
-    ensures due { (r : Rules) (chunks : List NamedChunk) (gone : List (NamedChunk × Hows)) → HasGathered gatherer.old r chunks gone → count.old ≡ length chunks
+    ensures due { (r : Rules) (chunks : List NamedChunk) (gone : List (NamedChunk × Hows))
+        → HasGathered gatherer.old r chunks gone → count.old ≡ length chunks
         → IsDeciding (answers_of gatherer.old) r limit (chunks ++ named_chunk chunk ∷ []) None (gone ++ parts_of result.parts.items) result.last
-        × (result.last ≡ memory → ShortAt (answers_of gatherer.old) r limit (chunks ++ named_chunk chunk ∷ []) (gone ++ parts_of result.parts.items)) }
+        × (result.last ≡ memory
+        → ShortAt (answers_of gatherer.old) r limit (chunks ++ named_chunk chunk ∷ []) (gone ++ parts_of result.parts.items)) }
     ensures own { IsOwnFault result.own None result.last }
-    ensures causes { (f : Faults) → result.own ≡ Some f → ((f ≡ Fault.TooMany limit) × (count.old ≡ limit)) ⊎ (f ≡ Fault.Memory) }
+    ensures causes { (f : Faults) → result.own ≡ Some f
+        → ((f ≡ Fault.TooMany limit) × (count.old ≡ limit)) ⊎ (f ≡ Fault.Memory) }
 {
     if *count >= limit {
         return match gatherer.take(alloc, chunk) {
@@ -83,13 +89,20 @@ pub(crate) fn take_chunk(
 // What the end comes to.
 pub(crate) fn take_end(alloc: Global, gatherer: &mut Gatherer) -> Given
     ensures index { index_of gatherer.new ≡ index_of gatherer.old }
-    ensures ended { (r : Rules) (chunks : List NamedChunk) (gone : List (NamedChunk × Hows)) → HasGathered gatherer.old r chunks gone
-        → result.own ≡ None → HasDecidedAll (answers_of gatherer.old) r chunks (gone ++ parts_of result.parts.items) × (result.last ≡ Some Last.End) }
-    ensures front { (r : Rules) (chunks : List NamedChunk) (gone : List (NamedChunk × Hows)) → HasGathered gatherer.old r chunks gone → IsSome result.own
-        → (more : List NamedChunk) → IsFront (gone ++ parts_of result.parts.items) (decided_parts (answers_of gatherer.old) r (chunks ++ more)) }
-    ensures due { (r : Rules) (limit : ℕ) (chunks : List NamedChunk) (gone : List (NamedChunk × Hows)) → HasGathered gatherer.old r chunks gone → length chunks ≤ limit
+    ensures ended { (r : Rules) (chunks : List NamedChunk) (gone : List (NamedChunk × Hows))
+        → HasGathered gatherer.old r chunks gone
+        → result.own ≡ None
+        → HasDecidedAll (answers_of gatherer.old) r chunks (gone ++ parts_of result.parts.items)
+        × (result.last ≡ Some Last.End) }
+    ensures front { (r : Rules) (chunks : List NamedChunk) (gone : List (NamedChunk × Hows))
+        → HasGathered gatherer.old r chunks gone → IsSome result.own
+        → (more : List NamedChunk)
+        → IsFront (gone ++ parts_of result.parts.items) (decided_parts (answers_of gatherer.old) r (chunks ++ more)) }
+    ensures due { (r : Rules) (limit : ℕ) (chunks : List NamedChunk) (gone : List (NamedChunk × Hows))
+        → HasGathered gatherer.old r chunks gone → length chunks ≤ limit
         → IsDeciding (answers_of gatherer.old) r limit (chunks ++ []) (Some Last.End) (gone ++ parts_of result.parts.items) result.last
-        × (result.last ≡ memory → ShortAt (answers_of gatherer.old) r limit (chunks ++ []) (gone ++ parts_of result.parts.items)) }
+        × (result.last ≡ memory
+        → ShortAt (answers_of gatherer.old) r limit (chunks ++ []) (gone ++ parts_of result.parts.items)) }
     ensures own { IsOwnFault result.own (Some Last.End) result.last }
     ensures causes { (f : Faults) → result.own ≡ Some f → f ≡ Fault.Memory }
 {

@@ -61,11 +61,14 @@ fn judge(
 ) -> Given
     requires { count.old ≤ limit }
     ensures index { index_of gatherer.new ≡ index_of gatherer.old }
-    ensures judged { (r : Rules) (chunks : List NamedChunk) (gone : List (NamedChunk × Hows)) → GoesOn true r limit chunks None gone None gatherer.old count.old
+    ensures judged { (r : Rules) (chunks : List NamedChunk) (gone : List (NamedChunk × Hows))
+        → GoesOn true r limit chunks None gone None gatherer.old count.old
         → IsDecidedBy (answers_of gatherer.old) r limit (chunks ++ chunk_of item) (last_in item) (gone ++ parts_of result.parts.items) result.last
-        × (result.last ≡ None → GoesOn true r limit (chunks ++ chunk_of item) (last_in item) (gone ++ parts_of result.parts.items) None gatherer.new count.new)
+        × (result.last ≡ None
+        → GoesOn true r limit (chunks ++ chunk_of item) (last_in item) (gone ++ parts_of result.parts.items) None gatherer.new count.new)
         × IsDeciding (answers_of gatherer.old) r limit (chunks ++ chunk_of item) (last_in item) (gone ++ parts_of result.parts.items) result.last
-        × (result.last ≡ memory → ShortAt (answers_of gatherer.old) r limit (chunks ++ chunk_of item) (gone ++ parts_of result.parts.items)) }
+        × (result.last ≡ memory
+        → ShortAt (answers_of gatherer.old) r limit (chunks ++ chunk_of item) (gone ++ parts_of result.parts.items)) }
     ensures own { IsOwnFault result.own (last_in item) result.last }
 {
     match item {
@@ -90,12 +93,15 @@ fn advance(
     holder: &mut Holder,
     item: Result<Chunk, Last>,
 )
-    requires { (index : List (Print × List ℕ)) × (r : Rules) × (chunks : List NamedChunk) × HasJudged index r limit chunks None goes.old gatherer.old count.old dealer.old holder.old.raised × (dealer.old.ready ≡ []) }
-    ensures judged { (index : List (Print × List ℕ)) (r : Rules) (chunks : List NamedChunk) → HasJudged index r limit chunks None goes.old gatherer.old count.old dealer.old holder.old.raised
+    requires { (index : List (Print × List ℕ)) × (r : Rules) × (chunks : List NamedChunk)
+        × HasJudged index r limit chunks None goes.old gatherer.old count.old dealer.old holder.old.raised × (dealer.old.ready ≡ []) }
+    ensures judged { (index : List (Print × List ℕ)) (r : Rules) (chunks : List NamedChunk)
+        → HasJudged index r limit chunks None goes.old gatherer.old count.old dealer.old holder.old.raised
         → HasJudged index r limit (chunks ++ chunk_of item) (last_in item) goes.new gatherer.new count.new dealer.new holder.new.raised }
     ensures lanes { dealer.new.lanes.items ≡ dealer.old.lanes.items }
     ensures index { index_of gatherer.new ≡ index_of gatherer.old }
-    ensures holder { (holder.new.family ≡ holder.old.family) × (holder.new.number ≡ holder.old.number) × (holder.new.saw ≡ holder.old.saw) }
+    ensures holder { (holder.new.family ≡ holder.old.family) × (holder.new.number ≡ holder.old.number)
+        × (holder.new.saw ≡ holder.old.saw) }
 {
     if !*goes {
         return;
@@ -134,9 +140,21 @@ impl Model for DecideStage {
 
     ghost Value = { Deciding };
 
-    ghost view = { λ s. record { limit = s.limit; rules = record { sparse = s.sparse.items; config = s.config }; index = index_of s.gatherer; lanes = s.picker.lanes.items; outs = s.dealer.lanes.items; over = s.picker.last; through = is_through s.dealer; holder = s.holder } };
+    ghost view = { λ s. record {
+      limit = s.limit;
+      rules = record { sparse = s.sparse.items; config = s.config };
+      index = index_of s.gatherer;
+      lanes = s.picker.lanes.items;
+      outs = s.dealer.lanes.items;
+      over = s.picker.last;
+      through = is_through s.dealer;
+      holder = s.holder;
+    } };
 
-    ghost invariant = { λ s. HasTaken (record { sparse = s.sparse.items; config = s.config }) s.limit s.picker s.goes s.gatherer s.count s.dealer s.holder.raised };
+    ghost invariant = { λ s. HasTaken (record {
+      sparse = s.sparse.items;
+      config = s.config;
+    }) s.limit s.picker s.goes s.gatherer s.count s.dealer s.holder.raised };
 }
 
 impl DecideStage {
@@ -162,7 +180,16 @@ impl DecideStage {
         requires taken { All (λ r. r.taken ≡ []) lanes.items }
         requires sent { All (λ t. t.sent ≡ []) outs.items }
         requires raised { holder.raised ≡ false }
-        ensures { result ≡ record { limit = limit; rules = record { sparse = sparse.items; config = config }; index = index; lanes = lanes.items; outs = outs.items; over = None; through = true; holder = holder } }
+        ensures { result ≡ record {
+          limit = limit;
+          rules = record { sparse = sparse.items; config = config };
+          index = index;
+          lanes = lanes.items;
+          outs = outs.items;
+          over = None;
+          through = true;
+          holder = holder;
+        } }
     {
         let gatherer = Gatherer::new(alloc, index, sparse, config);
         let picker = Picker::new(lanes);
@@ -183,7 +210,8 @@ impl DecideStage {
 
     /// The index as it was lent, the ends and the holder. No memory.
     pub fn end(self) -> (Index, Vec<Rx<Flow<Chunk>>>, Vec<Tx<Flow<Decided>>>, Holder)
-        ensures ends { (result.0 ≡ self.index) × (result.1.items ≡ self.lanes) × (result.2.items ≡ self.outs) × (result.3 ≡ self.holder) }
+        ensures ends { (result.0 ≡ self.index) × (result.1.items ≡ self.lanes)
+            × (result.2.items ≡ self.outs) × (result.3 ≡ self.holder) }
         ensures back { IsBack (found_in self.index) self.rules self.limit result.1.items self.over result.2.items result.3.raised }
     {
         let DecideStage {
@@ -201,7 +229,10 @@ impl Stage for DecideStage {
     ghost use Rattle.std.specs.Prelude.{refl};
     ghost use Rattle.std.proofs.Common.{◌∙◌};
 
-    ghost same = { λ a b. (a.limit ≡ b.limit) × (a.rules ≡ b.rules) × (a.index ≡ b.index) × (ends_of a.lanes ≡ ends_of b.lanes) × (lines_of a.outs ≡ lines_of b.outs) × (a.holder.family ≡ b.holder.family) × (a.holder.number ≡ b.holder.number) × (a.holder.saw ≡ b.holder.saw) };
+    ghost same = { λ a b. (a.limit ≡ b.limit) × (a.rules ≡ b.rules) × (a.index ≡ b.index)
+        × (ends_of a.lanes ≡ ends_of b.lanes) × (lines_of a.outs ≡ lines_of b.outs)
+        × (a.holder.family ≡ b.holder.family) × (a.holder.number ≡ b.holder.number)
+        × (a.holder.saw ≡ b.holder.saw) };
 
     ghost turned = { λ a turn b. Tells turn (all_taken a.lanes + all_sent a.outs) (all_taken b.lanes + all_sent b.outs) (is_some b.over && b.through) };
 

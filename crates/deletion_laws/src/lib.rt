@@ -46,12 +46,12 @@ pub fn clean_from<S: Shelf>(shelf: &mut S, strays: &mut Vec<Name>, start: usize)
     ensures front { take start strays.new.items ≡ take start strays.old.items }
     ensures behind { (n : Named) → Contains (drop start strays.new.items) n
         → Contains (drop start strays.old.items) n }
-    ensures fewer { length strays.new.items ≤ length strays.old.items }
+    ensures fewer { (length strays.new.items ≤ length strays.old.items)
+        × (vec_capacity strays.new ≡ vec_capacity strays.old) }
 
     // At most one name is left behind the place for each failure.
     ensures few { (S.told shelf.new).faults < 2 ^ 64 - 1
         → length strays.new.items + (S.told shelf.old).faults ≤ start + (S.told shelf.new).faults }
-    ensures room { vec_capacity strays.new ≡ vec_capacity strays.old }
     ensures tells { IsSome (S.told shelf.old).blobs → IsSome (S.told shelf.new).blobs }
     ensures gets { (S.told shelf.new).gets ≡ (S.told shelf.old).gets }
     ensures later { (S.told shelf.old).faults ≤ (S.told shelf.new).faults }

@@ -45,7 +45,13 @@ impl Model for HashStage {
 
     ghost Value = { Hashing };
 
-    ghost view = { λ s. record { from = s.from; to = s.to; ready = held s.ready; over = s.over; holder = s.holder } };
+    ghost view = { λ s. record {
+      from = s.from;
+      to = s.to;
+      ready = held s.ready;
+      over = s.over;
+      holder = s.holder;
+    } };
 
     ghost invariant = { λ s. IsHashed s.from.taken (s.to.sent ++ held s.ready) s.over };
 }

@@ -1,12 +1,11 @@
 -- What a keeper that was opened keeps.
-use Rattle.std.proofs.Common.{◌≡◌, ◌≤◌, ℕ, List, [], Option, Some, None, refl, sym, ap, subst, ◌∙◌}
+use Rattle.std.proofs.Common.{◌≡◌, ◌≤◌, Option, Some, None, refl, sym, subst, ◌∙◌}
 use Rattle.std.specs.FinMap as fin
 use Rattle.std.specs.Prelude.{IsSome, IsSomeAnd, IfSome, Contains}
 use Rattle.vault_types.specs.declared.Name.{Name}
 use Rattle.vault_types.specs.declared.Pending.TheVariants as pending
 use Rattle.vault_types.specs.State.{State, IsValid}
 use Rattle.vault_types.specs.Shelf.{Blobs, Stands}
-use Rattle.vault_traits.specs.Crash.{History}
 use Rattle.vault_traits.specs.Told.{ShelfTold}
 use Rattle.vault_types.specs.FirstDamage.{Opens}
 use Rattle.keeper_catalog.specs.View.{View, Keeps, opened_core}

@@ -1,7 +1,7 @@
 -- The recipe of a version, as a keeper reads it.
-use Rattle.std.proofs.Common.{◌≡◌, ◌⊎◌, inl, inr, ⊎_elim, ◌+◌, ◌*◌, ◌^◌, ◌&&◌, ◌<◌, ◌≤◌, ℕ, Bool, true, false, IsTrue, List, [], ◌∷◌, length, Option, Some, None, refl, sym, ap, subst, arith, ◌∙◌}
+use Rattle.std.proofs.Common.{◌≡◌, inl, inr, ◌+◌, ◌*◌, ◌^◌, ◌&&◌, ◌<◌, ◌≤◌, ℕ, Bool, true, false, IsTrue, List, [], ◌∷◌, length, Option, Some, None, refl, sym, ap, subst, arith, ◌∙◌}
 use Rattle.std.specs.FinMap as fin
-use Rattle.std.specs.Prelude.{IsSome, IsSomeAnd, IfSome, IfOk, IfErr, Result, Ok, Err, nat_eq}
+use Rattle.std.specs.Prelude.{IsSome, IsSomeAnd, IfOk, Result, Ok, Err, nat_eq}
 use Rattle.vault_types.specs.declared.Fault.{Fault}
 use Rattle.vault_types.specs.declared.Fault.TheVariants as fault
 use Rattle.vault_types.specs.declared.Answer.TheVariants.{Refused}
@@ -11,13 +11,13 @@ use Rattle.vault_types.specs.declared.Why.{Why}
 use Rattle.vault_types.specs.declared.Why.TheVariants as why
 use Rattle.vault_types.specs.declared.Recipe.{Recipe}
 use Rattle.vault_types.specs.State.{State, KeptVersion, is_kept, length_of, version_of, recipe_of}
-use Rattle.vault_types.specs.Blobs.{recipe_bytes, recipe_bytes_1, recipe_bytes_2, SpellsRecipe}
-use Rattle.vault_types.specs.Shelf.{Blobs, recipe_name, IsRecipeBlob, Has}
+use Rattle.vault_types.specs.Blobs.{recipe_bytes, SpellsRecipe}
+use Rattle.vault_types.specs.Shelf.{Blobs, recipe_name, IsRecipeBlob}
 use Rattle.vault_types.specs.Texts.{recipe_text}
 use Rattle.vault_types.specs.Events.{Core, Held}
 use Rattle.vault_traits.specs.Counts.{Rose}
 use Rattle.vault_traits.specs.Causes.{HasCauses, IsCause}
-use Rattle.vault_types.specs.BlobDamage.{IsNoRecipe, IsRecipeWhy, IsRecipeDamage}
+use Rattle.vault_types.specs.BlobDamage.{IsRecipeWhy, IsRecipeDamage}
 use Rattle.state_laws.specs.Parts.{HeldIfTold}
 use Rattle.keeper_catalog.specs.View.{View, Keeps}
 use Rattle.commit_laws.specs.Laws.{SaysVersion}

@@ -10,7 +10,7 @@ use Rattle.vault_types.specs.State.{State, IsValid}
 use Rattle.vault_types.specs.Shelf.{Blobs}
 use Rattle.vault_types.specs.Events.{Core, Change, Pin, pinned_containers, IsChange, IsNear, IsNeeded}
 use Rattle.state_laws.specs.Parts.{HeldIfTold}
-use Rattle.keeper_catalog.specs.View.{View, Keeps}
+use Rattle.keeper_catalog.specs.View.{View}
 use Rattle.store_model.specs.Strays.{IsStray, StraysOf}
 use Rattle.store_model.specs.View.{IsKept}
 use Rattle.keeper_core.specs.Keeping.{IsStateOf, IsKnownStray}

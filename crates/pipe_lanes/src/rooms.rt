@@ -30,7 +30,9 @@ pub fn all_rooms(
     requires holders { count ≤ length holders.old.items }
     ensures rooms { IfOk result (λ r. AreRooms r.0.items r.1.items r.2.items) }
     ensures count { IfOk result (λ r. length r.1.items ≡ count) }
-    ensures holders { (f : Kin) → AreNew f holders.old.items → IfOk result (λ r. AreNew f (map (λ l. l.holder) r.1.items) × AreNew f holders.new.items × (length holders.new.items + count ≡ length holders.old.items)) }
+    ensures holders { (f : Kin) → AreNew f holders.old.items
+        → IfOk result (λ r. AreNew f (map (λ l. l.holder) r.1.items) × AreNew f holders.new.items
+        × (length holders.new.items + count ≡ length holders.old.items)) }
 {
     let mut nears = Vec::new(alloc);
     let mut rooms = Vec::new(alloc);

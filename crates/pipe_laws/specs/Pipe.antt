@@ -34,7 +34,8 @@ pub record LaneBack (dealt far : List (Flow (List ℕ))) : Type 0 where
 -- a pipeline: what the source gave, by reads, and how that ended; what the summing stage took and
 -- sent on; what the chunking stage took and dealt; what the deciding stage took and decided; and
 -- what was taken at the far end
-pub record Pipe (c : Cutting) (find : Fp → Option ℕ) (r : Rules) (limit lanes read : ℕ) (saw : Bool) (out : List (Flow (List ℕ))) (over : Option Last) (far : List (Flow (NamedChunk × How))) : Type 0 where
+pub record Pipe (c : Cutting) (find : Fp
+    → Option ℕ) (r : Rules) (limit lanes read : ℕ) (saw : Bool) (out : List (Flow (List ℕ))) (over : Option Last) (far : List (Flow (NamedChunk × How))) : Type 0 where
   pub cuttable : IsCuttable c
   pub some : 0 < lanes
   pub reading : HasRead limit read out over saw
@@ -49,7 +50,8 @@ pub record Pipe (c : Cutting) (find : Fp → Option ℕ) (r : Rules) (limit lane
   pub chunking : IsChunking c limit reads reads_over chunks chunks_over
   pub named : List (List ℕ)
   pub named_over : Option Last
-  pub middle_lines : (j : ℕ) → j < lanes → LaneBack (run (lane_parts lanes 0 j chunks) chunks_over) (picked_from lanes named named_over j)
+  pub middle_lines : (j : ℕ) → j < lanes
+      → LaneBack (run (lane_parts lanes 0 j chunks) chunks_over) (picked_from lanes named named_over j)
   pub decided : List (NamedChunk × How)
   pub decided_over : Option Last
   pub deciding : IsDecidedBy find r limit (map named_chunk named) named_over decided decided_over
@@ -61,17 +63,22 @@ abbrev pub IsPipeFault : Cutting → ℕ → List (List ℕ) → Option Last →
 IsPipeFault c limit reads over f =
     (over ≡ Some (last.Failed f))
     ⊎ ((f ≡ fault.Memory)
-    ⊎ ((f ≡ fault.TooMany limit) × (taken : List (List ℕ)) × (taken_over : Option Last) × IsFront taken reads × ((taken_over ≡ None) ⊎ ((taken_over ≡ over) × (taken ≡ reads))) × (limit < length (chunks_of c taken taken_over))))
+    ⊎ ((f ≡ fault.TooMany limit) × (taken : List (List ℕ)) × (taken_over : Option Last)
+    × IsFront taken reads × ((taken_over ≡ None) ⊎ ((taken_over ≡ over) × (taken ≡ reads)))
+    × (limit < length (chunks_of c taken taken_over))))
 
 -- what came out: parts, no more than the limit, which begin the decisions on all chunks of all that
 -- was read; and a last item, if it came. With the end they are all of them, to the source's end
-pub record ReadBack (c : Cutting) (find : Fp → Option ℕ) (r : Rules) (limit : ℕ) (reads : List (List ℕ)) (over : Option Last) (far : List (Flow (NamedChunk × How))) : Type 0 where
+pub record ReadBack (c : Cutting) (find : Fp
+    → Option ℕ) (r : Rules) (limit : ℕ) (reads : List (List ℕ)) (over : Option Last) (far : List (Flow (NamedChunk × How))) : Type 0 where
   pub parts : List (NamedChunk × How)
   pub l : Option Last
   pub far_is : far ≡ run parts l
   pub few : length parts ≤ limit
   pub front : IsFront parts (decided_parts find r (map named_chunk (cuts (concat reads) c)))
-  pub ended : l ≡ Some last.End → (over ≡ Some last.End) × (parts ≡ decided_parts find r (map named_chunk (cuts (concat reads) c))) × (length (cuts (concat reads) c) ≤ limit)
+  pub ended : l ≡ Some last.End → (over ≡ Some last.End)
+      × (parts ≡ decided_parts find r (map named_chunk (cuts (concat reads) c)))
+      × (length (cuts (concat reads) c) ≤ limit)
   pub failed : (f : Fault) → l ≡ Some (last.Failed f) → IsPipeFault c limit reads over f
   pub stopped : l ≡ Some last.Stopped → over ≡ Some last.Stopped
 
@@ -80,20 +87,25 @@ pub record ReadBack (c : Cutting) (find : Fp → Option ℕ) (r : Rules) (limit 
 -- came out is no fault, the chunking stage and the deciding stage ended with it, and where it is the
 -- end, all that was read was summed
 pub record AsOne (reads : List (List ℕ)) (over : Option Last) (summed : List (List ℕ)) (reads_over chunks_over named_over decided_over : Option Last) (far : List (Flow (NamedChunk × How))) : Type 0 where
-  pub far_last : (parts : List (NamedChunk × How)) (k : Last) → far ≡ run parts (Some k) → decided_over ≡ Some k
+  pub far_last : (parts : List (NamedChunk × How)) (k : Last) → far ≡ run parts (Some k)
+      → decided_over ≡ Some k
   pub lane_last : (k : Last) → named_over ≡ Some k → chunks_over ≡ Some k
   pub read_last : (k : Last) → reads_over ≡ Some k → over ≡ Some k
   pub whole : (parts : List (NamedChunk × How)) → far ≡ run parts (Some last.End) → summed ≡ reads
-  pub one : (parts : List (NamedChunk × How)) (k : Last) → far ≡ run parts (Some k) → ((f : Fault) → k ≡ last.Failed f → ⊥) → (chunks_over ≡ Some k) × (decided_over ≡ Some k)
+  pub one : (parts : List (NamedChunk × How)) (k : Last) → far ≡ run parts (Some k)
+      → ((f : Fault) → k ≡ last.Failed f → ⊥) → (chunks_over ≡ Some k) × (decided_over ≡ Some k)
 
 abbrev pub IsAsOne : Type 0
 IsAsOne =
-    (c : Cutting) (find : Fp → Option ℕ) (r : Rules) (limit lanes read : ℕ) (saw : Bool) (out : List (Flow (List ℕ))) (over : Option Last) (far : List (Flow (NamedChunk × How)))
-    → (p : Pipe c find r limit lanes read saw out over far) → AsOne p.reading.reads over p.summed p.reads_over p.chunks_over p.named_over p.decided_over far
+    (c : Cutting) (find : Fp
+    → Option ℕ) (r : Rules) (limit lanes read : ℕ) (saw : Bool) (out : List (Flow (List ℕ))) (over : Option Last) (far : List (Flow (NamedChunk × How)))
+    → (p : Pipe c find r limit lanes read saw out over far)
+    → AsOne p.reading.reads over p.summed p.reads_over p.chunks_over p.named_over p.decided_over far
 
 abbrev pub IsReadBack : Type 0
 IsReadBack =
-    (c : Cutting) (find : Fp → Option ℕ) (r : Rules) (limit lanes read : ℕ) (saw : Bool) (out : List (Flow (List ℕ))) (over : Option Last) (far : List (Flow (NamedChunk × How)))
+    (c : Cutting) (find : Fp
+    → Option ℕ) (r : Rules) (limit lanes read : ℕ) (saw : Bool) (out : List (Flow (List ℕ))) (over : Option Last) (far : List (Flow (NamedChunk × How)))
     → (p : Pipe c find r limit lanes read saw out over far) → ReadBack c find r limit p.reading.reads over far
 
 -- what the chunking stage has sent is that of the definition by flows
@@ -105,5 +117,7 @@ IsChunkingByFlows =
 -- and what the deciding stage has sent
 abbrev pub IsDecidingByFlows : Type 0
 IsDecidingByFlows =
-    (find : Fp → Option ℕ) (r : Rules) (limit : ℕ) (chunks : List NamedChunk) (over : Option Last) (parts : List (NamedChunk × How)) (l : Option Last)
-    → IsDeciding find r limit chunks over parts l → Sends (decided_items find r limit (run chunks over)) (run parts l)
+    (find : Fp
+    → Option ℕ) (r : Rules) (limit : ℕ) (chunks : List NamedChunk) (over : Option Last) (parts : List (NamedChunk × How)) (l : Option Last)
+    → IsDeciding find r limit chunks over parts l
+    → Sends (decided_items find r limit (run chunks over)) (run parts l)

@@ -1,8 +1,8 @@
 -- A job's ends as a pipeline that is read backwards.
-use Rattle.std.proofs.Common.{◌≡◌, ◌⊎◌, inl, inr, ⊎_elim, ℕ, zero, suc, ◌<◌, ◌||◌, Bool, true, false, true≢false, List, [], ◌∷◌, ◌++◌, length, refl, sym, ap, ◌∙◌, subst, Option, Some, None, arith}
+use Rattle.std.proofs.Common.{◌≡◌, ◌⊎◌, inl, inr, ⊎_elim, ℕ, zero, suc, ◌+◌, ◌*◌, ◌<◌, ◌≤◌, ◌||◌, Bool, true, false, true≢false, List, [], ◌∷◌, ◌++◌, length, append-nil, refl, sym, ap, ◌∙◌, subst, Option, Some, None, arith, length-append}
 use Rattle.std.specs.Prelude.{slice_get}
 use Rattle.std.specs.Option.{is_some}
-use Rattle.std.specs.List.{concat}
+use Rattle.std.specs.List.{concat, AllByRecursion}
 use Rattle.std.proofs.lemmas.List.{map-append}
 use Rattle.stage_queue.specs.Ends.{Sender, Receiver}
 use Rattle.vault_types.specs.declared.Cutting.{Cutting}
@@ -11,7 +11,7 @@ use Rattle.vault_types.specs.declared.Flow.{Flow}
 use Rattle.vault_types.specs.declared.Fp.{Fp}
 use Rattle.vault_types.specs.Names.{fp}
 use Rattle.vault_types.specs.Decide.{Rules}
-use Rattle.vault_types.specs.Stages.{IsLine, IsFront}
+use Rattle.vault_types.specs.Stages.{IsLine, IsFront, but_last}
 use Rattle.vault_traits.specs.Told.{SourceTold}
 use Rattle.rewrite_stage.specs.declared.Decided.{Decided}
 use Rattle.stage_flows.specs.declared.Last.{Last}
@@ -19,7 +19,7 @@ use Rattle.stage_flows.specs.declared.Last.TheVariants as last
 use Rattle.stage_flows.specs.Runs.{run, is_stop}
 use Rattle.stage_flows.proofs.Running.{run-one}
 use Rattle.vault_types.specs.JobRanges.{IsCuttable}
-use Rattle.source_reads.specs.Reading.{HasRead, Advances, WentOn}
+use Rattle.source_reads.specs.Reading.{HasRead, Advances, IsOwnEnd, WentOn}
 use Rattle.stage_lanes.specs.Lanes.{AllAt, lane_parts, picked_from}
 use Rattle.stage_rules.specs.Chunking.{IsOwnFault}
 use Rattle.segment_gather.specs.Segmented.{parts_of}
@@ -57,6 +57,17 @@ lens [] [] b = refl
 lens [] (r ∷ rs) b = absurd b
 lens (t ∷ ts) [] b = absurd b
 lens (t ∷ ts) (r ∷ rs) b = ap (λ n. suc n) (lens ts rs b.1)
+
+-- a read more is of at most 65,536 bytes
+
+last_within : (xs : List (List ℕ)) → AllByRecursion (λ x. (1 ≤ length x) × (length x ≤ 65536)) xs → length (concat xs) ≤ length (concat (but_last xs)) + 65536
+last_within [] a = omega arith
+last_within (x ∷ []) a = let e : length (x ++ []) ≡ length x = ap length (append-nil x) in omega (arith, a.0.1)
+last_within (x ∷ y ∷ zs) a =
+    let h = last_within (y ∷ zs) a.1 in
+    let p : length (x ++ concat (y ∷ zs)) ≡ length x + length (concat (y ∷ zs)) = length-append x (concat (y ∷ zs)) in
+    let q : length (x ++ concat (but_last (y ∷ zs))) ≡ length x + length (concat (but_last (y ∷ zs))) = length-append x (concat (but_last (y ∷ zs))) in
+    omega (arith, h)
 
 -- one line after the last stage
 
@@ -175,6 +186,8 @@ module _ (c : Cutting) (find : Fp → Option ℕ) (r : Rules) (limit : ℕ) (fro
     reads = e.reading.reads;
     over = e.over;
     went = subst (WentOn from to) (sym e.going.1 ∙ e.reading.gave) e.going.2;
+    within = omega (arith, last_within e.reading.reads e.reading.sizes, e.reading.within);
+    ended = subst (λ n. IsOwnEnd limit n e.over) e.reading.count e.reading.ended;
     back = read_back c find r limit (length near) e.read e.saw (e.read_sent ++ e.read_ready) e.over (named_items taken) pipe;
     summed = λ ps at. e.summed.2 ∙ ap (λ q. fp (concat q)) (whole.whole (parts_of ps) (named_taken ps (Some last.End) at));
     own = first_own e.deciding.own e.chunking.own;

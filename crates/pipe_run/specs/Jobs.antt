@@ -1,5 +1,5 @@
 -- What contracts see of a job, and what its end tells.
-use Rattle.std.specs.Prelude.{◌≡◌, ◌||◌, ℕ, Bool, true, List, map, Option, Some}
+use Rattle.std.specs.Prelude.{◌≡◌, ◌≤◌, ◌+◌, ◌*◌, ◌||◌, ℕ, Bool, true, List, length, map, Option, Some}
 use Rattle.std.specs.List.{concat}
 use Rattle.std.specs.Option.{is_some}
 use Rattle.vault_types.specs.declared.Cutting.{Cutting}
@@ -15,7 +15,7 @@ use Rattle.rewrite_stage.specs.declared.Decided.{Decided}
 use Rattle.stage_flows.specs.declared.Last.{Last}
 use Rattle.stage_flows.specs.declared.Last.TheVariants as last
 use Rattle.stage_flows.specs.Runs.{run}
-use Rattle.source_reads.specs.Reading.{WentOn}
+use Rattle.source_reads.specs.Reading.{IsOwnEnd, WentOn}
 use Rattle.stage_rules.specs.Chunking.{IsOwnFault}
 use Rattle.segment_gather.specs.Segmented.{part_of}
 use Rattle.pipe_laws.specs.Pipe.{ReadBack}
@@ -41,14 +41,18 @@ named_item Stopped = Stopped
 abbrev pub named_items : List (Flow Decided) → List (Flow (NamedChunk × How))
 named_items items = map named_item items
 
--- the source went on by these reads and this last item; what was taken is told by them; after the end
--- all bytes were summed. The word was raised exactly where the job was stopped, or a stage behind the
--- reading one had a fault of its own, which then is the last item that was taken; else that is the
--- reading stage's. A stop comes of a stop
-pub record IsJobBack (c : Cutting) (find : Fp → Option ℕ) (r : Rules) (limit : ℕ) (from to : SourceTold) (taken : List (Flow Decided)) (sum : Fp) (stopped raised : Bool) : Type 0 where
+-- the source went on by these reads and this last item, and has given at most one read more than so
+-- many chunks can have; the last item is one of the reading stage's own; what was taken is told by them;
+-- after the end all bytes were summed. The word was raised exactly where the job was stopped, or a stage
+-- behind the reading one had a fault of its own, which then is the last item that was taken; else that is
+-- the reading stage's. A stop comes of a stop
+pub record IsJobBack (c : Cutting) (find : Fp
+    → Option ℕ) (r : Rules) (limit : ℕ) (from to : SourceTold) (taken : List (Flow Decided)) (sum : Fp) (stopped raised : Bool) : Type 0 where
   pub reads : List (List ℕ)
   pub over : Option Last
   pub went : WentOn from to (run reads over)
+  pub within : length (concat reads) ≤ limit * 65536 + 65536
+  pub ended : IsOwnEnd limit (length (concat reads)) over
   pub back : ReadBack c find r limit reads over (named_items taken)
   pub summed : (parts : List Decided) → taken ≡ run parts (Some last.End) → sum ≡ fp (concat reads)
   pub own : Option Fault

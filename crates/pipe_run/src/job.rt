@@ -50,7 +50,15 @@ impl<I: Source + Drop> Model for Job<I> {
 
     ghost Value = { JobView I };
 
-    ghost view = { λ j. record { source = j.single.read.first.source; cutting = j.single.chunk.first.cutting; rules = j.single.decide.first.rules; limit = j.single.decide.first.limit; index = j.single.decide.first.index; taken = j.far.taken; stopped = j.own.raised } };
+    ghost view = { λ j. record {
+      source = j.single.read.first.source;
+      cutting = j.single.chunk.first.cutting;
+      rules = j.single.decide.first.rules;
+      limit = j.single.decide.first.limit;
+      index = j.single.decide.first.index;
+      taken = j.far.taken;
+      stopped = j.own.raised;
+    } };
 
     ghost invariant = { λ j. IsRunning j.reads j.sums j.ends j.single.read.first j.single.sum.first j.single.chunk.first j.single.decide.first j.lanes.items j.far.line j.own (vec_len j.back) (vec_capacity j.back) j.back.items };
 }
@@ -72,7 +80,15 @@ impl<I: Source + Drop> Job<I> {
     where
         I: Send + 's,
         requires { IsCuttable config.cutting }
-        ensures { result ≡ record { source = source; cutting = config.cutting; rules = record { sparse = room; config = config }; limit = limit; index = index; taken = []; stopped = false } }
+        ensures { result ≡ record {
+          source = source;
+          cutting = config.cutting;
+          rules = record { sparse = room; config = config };
+          limit = limit;
+          index = index;
+          taken = [];
+          stopped = false;
+        } }
     {
         Job::start_on(
             rt,
@@ -100,7 +116,15 @@ impl<I: Source + Drop> Job<I> {
     where
         I: Send + 's,
         requires { IsCuttable config.cutting }
-        ensures { result ≡ record { source = source; cutting = config.cutting; rules = record { sparse = room; config = config }; limit = limit; index = index; taken = []; stopped = false } }
+        ensures { result ≡ record {
+          source = source;
+          cutting = config.cutting;
+          rules = record { sparse = room; config = config };
+          limit = limit;
+          index = index;
+          taken = [];
+          stopped = false;
+        } }
     {
         let JobRoom {
             alloc,

@@ -67,7 +67,9 @@ struct Four {
 fn deal_four(all: &mut Vec<Holder>) -> Four
     requires { 4 ≤ length all.old.items }
     ensures left { length all.new.items + 4 ≡ length all.old.items }
-    ensures new { (f : Kin) → AreNew f all.old.items → AreNew f (result.own ∷ result.read ∷ result.chunk ∷ result.decide ∷ []) × AreNew f all.new.items }
+    ensures new { (f : Kin) → AreNew f all.old.items
+        → AreNew f (result.own ∷ result.read ∷ result.chunk ∷ result.decide ∷ [])
+        × AreNew f all.new.items }
 {
     let Some(own) = all.pop() else { unreachable!() };
     let Some(read) = all.pop() else {
@@ -90,7 +92,8 @@ fn deal_four(all: &mut Vec<Holder>) -> Four
 // A new word's holders.
 fn new_holders(alloc: Global, count: u32) -> Result<Vec<Holder>, Memory>
     requires { 1 ≤ count }
-    ensures { IfOk result (λ all. (f : Kin) × AreNew f all.items × (length all.items ≡ count) × (f.count ≡ count)) }
+    ensures { IfOk result (λ all. (f : Kin) × AreNew f all.items × (length all.items ≡ count)
+        × (f.count ≡ count)) }
 {
     holders(alloc, count)
 }

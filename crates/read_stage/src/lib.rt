@@ -42,7 +42,15 @@ impl<I: Source> Model for ReadStage<I> {
 
     ghost Value = { Reading I };
 
-    ghost view = { λ s. record { source = s.source; limit = s.limit; to = s.to; ready = held s.ready; over = s.over; read = s.read; holder = s.holder } };
+    ghost view = { λ s. record {
+      source = s.source;
+      limit = s.limit;
+      to = s.to;
+      ready = held s.ready;
+      over = s.over;
+      read = s.read;
+      holder = s.holder;
+    } };
 
     ghost invariant = { λ s. HasRead s.limit s.read (s.to.sent ++ held s.ready) s.over s.holder.saw };
 }
@@ -57,7 +65,15 @@ impl<I: Source> ReadStage<I> {
         holder: Holder,
     ) -> ReadStage<I>
         requires { (out.sent ≡ []) × (holder.saw ≡ false) }
-        ensures { result ≡ record { source = source; limit = limit; to = out; ready = []; over = None; read = 0; holder = holder } }
+        ensures { result ≡ record {
+          source = source;
+          limit = limit;
+          to = out;
+          ready = [];
+          over = None;
+          read = 0;
+          holder = holder;
+        } }
     {
         ReadStage {
             alloc,
@@ -92,7 +108,10 @@ impl<I: Source + Drop> Stage for ReadStage<I> {
     ghost use Rattle.stop_word.specs.Holders.{HolderState};
     ghost use Rattle.source_reads.proofs.Going.{Advances_refl, Advances_trans};
 
-    ghost same = { λ a b. (a.limit ≡ b.limit) × (a.to.line ≡ b.to.line) × (a.holder.family ≡ b.holder.family) × (a.holder.number ≡ b.holder.number) × (a.holder.raised ≡ b.holder.raised) × Advances (I.told a.source) (a.to.sent ++ a.ready) (I.told b.source) (b.to.sent ++ b.ready) };
+    ghost same = { λ a b. (a.limit ≡ b.limit) × (a.to.line ≡ b.to.line)
+        × (a.holder.family ≡ b.holder.family) × (a.holder.number ≡ b.holder.number)
+        × (a.holder.raised ≡ b.holder.raised)
+        × Advances (I.told a.source) (a.to.sent ++ a.ready) (I.told b.source) (b.to.sent ++ b.ready) };
 
     ghost turned = { λ a turn b. Tells turn (length (a.to.sent ++ a.ready) + length a.to.sent) (length (b.to.sent ++ b.ready) + length b.to.sent) (is_done b.over b.ready) };
 

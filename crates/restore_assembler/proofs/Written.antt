@@ -1,13 +1,10 @@
 -- What was written, piece by piece.
-use Rattle.std.proofs.Common.{◌≡◌, ◌≤◌, ◌<◌, ◌+◌, ◌-◌, ◌++◌, length, length-append, get_or, flat_map, length-drop, ℕ, List, [], take, drop, append_assoc, Option, Some, None, refl, sym, ap, subst, arith, ◌∙◌}
-use Rattle.std.specs.Option.{option_map}
-use Rattle.std.proofs.Math.Seq.{take-add}
-use Rattle.std.proofs.lemmas.List.{append-nil, take-append-drop, take_all, drop_more}
+use Rattle.std.proofs.Common.{◌≡◌, ◌<◌, ◌+◌, ◌-◌, ◌++◌, length, length-append, get_or, flat_map, ℕ, List, [], take, drop, append_assoc, Option, refl, sym, ap, subst, arith, ◌∙◌}
+use Rattle.std.proofs.lemmas.List.{append-nil, take-append-drop, drop_more}
 use Rattle.std.proofs.lemmas.List.Concat.{flat_map-append}
 use Rattle.vault_types.specs.declared.Spot.{Spot}
 use Rattle.vault_types.specs.Bytes.{spot_bytes}
-use Rattle.vault_traits.specs.Counts.{Rose}
-use Rattle.vault_traits.specs.Told.{SinkTold, Takes}
+use Rattle.vault_traits.specs.Told.{SinkTold}
 use Rattle.fingerprint_stage.specs.declared.running_sum.RunningSum.{RunningSum}
 use Rattle.vault_traits.specs.CutOff.{IsCutOff}
 use Rattle.vault_traits.proofs.Written.{takes_nothing, takes_then}

@@ -1,5 +1,5 @@
 -- What was written of some bytes.
-use Rattle.std.specs.Prelude.{◌≡◌, ℕ, ◌≤◌, ◌<◌, ◌-◌, List, ◌++◌, take, drop, Option, is_some, IfSome, length}
+use Rattle.std.specs.Prelude.{◌≡◌, ℕ, ◌≤◌, ◌-◌, List, ◌++◌, take, drop, Option, is_some, IfSome, length}
 use Rattle.vault_traits.specs.Told.{SinkTold, Takes}
 use Rattle.fingerprint_stage.specs.declared.running_sum.RunningSum.{RunningSum}
 use Rattle.fingerprint_stage.specs.Sums.{HasSummed}

@@ -227,9 +227,8 @@ impl Progress {
         ensures going { IsProgress self.new }
         ensures ready { LoadsNext self.new }
         ensures summing { IsSumming self.new }
-        ensures spots { self.new.spots ≡ self.old.spots }
-        ensures slots { self.new.slots ≡ self.old.slots }
-        ensures whole { self.new.whole ≡ self.old.whole }
+        ensures same { (self.new.spots ≡ self.old.spots) × (self.new.slots ≡ self.old.slots)
+            × (self.new.whole ≡ self.old.whole) }
         ensures loads { OnOk result
             (loads_of (seen_of self.new).steps + 1 ≡ loads_of (seen_of self.old).steps) }
         ensures behind { OnOk result ((k : ℕ)

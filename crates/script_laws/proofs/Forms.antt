@@ -1,5 +1,5 @@
 -- What is left of the recipes, behind one line and behind several.
-use Rattle.std.proofs.Common.{◌≡◌, ⊎_elim, ℕ, ◌+◌, ◌<◌, ◌≤◌, length, List, map, Option, Some, None, refl, sym, ◌∙◌, ap, subst, arith}
+use Rattle.std.proofs.Common.{◌≡◌, ⊎_elim, ℕ, ◌+◌, ◌<◌, length, List, map, Option, Some, None, refl, sym, ◌∙◌, ap, subst, arith}
 use Rattle.std.specs.Prelude.{slice_index_or}
 use Rattle.vault_types.specs.declared.JobConfig.{JobConfig}
 use Rattle.vault_types.specs.Cuts.{cuts}

@@ -5,7 +5,7 @@ use Rattle.vault_types.proofs.FillLemmas.{bytes_eq-same}
 use Rattle.vault_types.specs.Bytes.{bytes_of}
 use Rattle.vault_types.specs.Words.{is_one_of}
 use Rattle.std.proofs.Common.{◌≡◌, ◌≢◌, ◌++◌, ◌||◌, ◌&&◌, ◌⊎◌, inl, inr, ◌≤◌, ℕ, Bool, true, false, IsTrue, List, [], ◌∷◌, Option, Some, None, refl, sym, ◌∙◌, ap, subst, arith}
-use Rattle.std.specs.Prelude.{MatchOption, IsSomeAnd, if◌then◌else◌, IfSome, IsSome, unwrap_or}
+use Rattle.std.specs.Prelude.{MatchOption, if◌then◌else◌, IfSome}
 use Rattle.std.specs.List.{cons_option}
 use Rattle.vault_types.specs.declared.Limits.{Limits}
 use Rattle.vault_types.specs.declared.JobConfig.{JobConfig}
@@ -15,7 +15,7 @@ use Rattle.vault_types.specs.declared.Fault.TheVariants as fault
 use Rattle.vault_types.specs.declared.Kind.TheVariants as kind
 use Rattle.vault_types.specs.declared.Why.TheVariants as why
 use Rattle.vault_types.specs.declared.Answer.{Answer}
-use Rattle.vault_types.specs.declared.Answer.TheVariants.{Stored, Restored, Removed, Shown, Migrated, Scrubbed, Refused}
+use Rattle.vault_types.specs.declared.Answer.TheVariants.{Restored, Refused}
 use Rattle.vault_types.specs.declared.Line.{Line}
 use Rattle.vault_types.specs.declared.Line.TheVariants.{Backup, Restore, Delete}
 use Rattle.vault_types.specs.State.{State, is_full, is_kept, floor_of, latest_of, next_of}
@@ -24,15 +24,14 @@ use Rattle.vault_types.specs.Refusals.{due_refusal, is_of_state, refuses_by_stat
 use Rattle.vault_traits.specs.Counts.{added, RiseFrom}
 use Rattle.vault_types.specs.Events.{Change, IsNear}
 use Rattle.vault_types.specs.Shelf.{Blobs}
-use Rattle.vault_traits.specs.Told.{ShelfTold, SourceTold, Files}
-use Rattle.std.proofs.lemmas.List.Elements.{Contains-push}
-use Rattle.vault_traits.specs.Files.{AreKept, IsReaderOf, ChangesOnly, IsEmptied, IsThere}
+use Rattle.vault_traits.specs.Told.{ShelfTold, Files}
+use Rattle.vault_traits.specs.Files.{AreKept, ChangesOnly, IsEmptied, IsThere}
 use Rattle.vault_traits.proofs.Moments.{stays, more_now}
 use Rattle.store_model.specs.Causes.{CausesRise, fits, place_number, read_number, write_number}
 use Rattle.store_model.specs.Table.{MeansLine, MayBeAnswer, ShowsDamage}
 use Rattle.store_model.specs.Leaves.{Gets}
 use Rattle.store_model.specs.Complete.{IsWellAnswered}
-use Rattle.store_model.specs.Outputs.{OnFiles, KeepsOthers, AreFedBy, HasFront, IsOutput, IsOutputOf}
+use Rattle.store_model.specs.Outputs.{OnFiles, KeepsOthers, HasFront, IsOutput, IsOutputOf}
 use Rattle.store_model.specs.Strays.{MayStayBehind}
 use Rattle.store_model.specs.Steps.{StepsOn, StandsWith, read_numbered, write_numbered}
 use Rattle.store_model.specs.Calls.{HasWritten, writes_all}

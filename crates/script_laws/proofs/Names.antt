@@ -1,5 +1,5 @@
 -- Names of sources and outputs that are apart, and the bytes under them.
-use Rattle.std.proofs.Common.{◌≡◌, ◌⊎◌, inl, inr, ◌≤◌, ℕ, Bool, true, false, not, ◌&&◌, ◌||◌, IsTrue, List, [], ◌∷◌, ◌++◌, Option, Some, None, refl, sym, ◌∙◌, ap, subst, append_assoc}
+use Rattle.std.proofs.Common.{◌≡◌, inl, inr, ℕ, Bool, true, false, not, ◌&&◌, ◌||◌, IsTrue, List, [], ◌∷◌, ◌++◌, Option, Some, None, refl, sym, ◌∙◌, ap, subst}
 use Rattle.std.specs.Prelude.{Contains, map, flat_map, IsSome, IsSomeAnd, IfSome, unwrap_or}
 use Rattle.std.specs.List.{AllByRecursion, list_any}
 use Rattle.std.proofs.lemmas.List.{append-nil, map-append}
@@ -9,7 +9,7 @@ use Rattle.std.proofs.lemmas.List.Elements.{Contains-append_left, Contains-appen
 use Rattle.vault_types.specs.declared.Line.{Line}
 use Rattle.vault_types.specs.declared.Line.TheVariants.{Backup, Restore, Delete}
 use Rattle.vault_types.specs.Words.{sources_of, outputs_of, are_apart, is_one_of}
-use Rattle.vault_types.specs.Script.{Sources, after, is_refused}
+use Rattle.vault_types.specs.Script.{Sources, after}
 use Rattle.vault_traits.specs.Files.{IsThere}
 use Rattle.vault_traits.specs.Told.{Files}
 use Rattle.vault_types.specs.declared.Answer.{Answer}

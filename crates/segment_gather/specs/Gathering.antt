@@ -26,7 +26,8 @@ places_of parts = map (λ p. (p.0.fp, p.1)) parts
 
 -- the gatherer took these chunks by these rules, and gave these decisions out: those of the
 -- segments that are complete
-pub record HasGathered (g : Gatherer) (r : Rules) (chunks : List NamedChunk) (gone : List (NamedChunk × How)) : Type 0 where
+pub record HasGathered (g : Gatherer) (r : Rules) (chunks : List NamedChunk) (gone : List (NamedChunk
+    × How)) : Type 0 where
   pub pushed : HasPushed g.segmenter r.config.segment (map size_of chunks)
   pub done : List (List NamedChunk)
   pub split : segments_of r.config chunks ≡ done ++ only_segment (map named_chunk g.segment.items)
@@ -36,6 +37,7 @@ pub record HasGathered (g : Gatherer) (r : Rules) (chunks : List NamedChunk) (go
   pub gone_places : places_of gone ≡ places_in (answers_of g) r done
 
 -- all of the chunks were decided
-pub record HasDecidedAll (find : Fp → Option ℕ) (r : Rules) (chunks : List NamedChunk) (parts : List (NamedChunk × How)) : Type 0 where
+pub record HasDecidedAll (find : Fp
+    → Option ℕ) (r : Rules) (chunks : List NamedChunk) (parts : List (NamedChunk × How)) : Type 0 where
   pub chunks_are : chunks_in parts ≡ chunks
   pub places_are : places_of parts ≡ places_in find r (segments_of r.config chunks)

@@ -33,7 +33,8 @@ fn decide_segment(
     ensures index { decider.new.index ≡ decider.old.index }
     ensures chunks { IfOk result (λ ds. chunks_in (parts_of ds.items) ≡ map named_chunk segment.items) }
     ensures places { (r : Rules) (places : List (Print × Hows)) → HasDecided decider.old r places
-        → IfOk result (λ ds. places ++ places_of (parts_of ds.items) ≡ decisions_of r places (looked_up decider.old.index segment.items)) }
+        → IfOk result
+        (λ ds. places ++ places_of (parts_of ds.items) ≡ decisions_of r places (looked_up decider.old.index segment.items)) }
     ensures decided { (r : Rules) (places : List (Print × Hows)) → HasDecided decider.old r places
         → OnOk result (HasDecided decider.new r (decisions_of r places (looked_up decider.old.index segment.items))) }
 {
@@ -56,8 +57,10 @@ impl Gatherer {
     /// Takes the next chunk, and gives out the decisions on the segment that it completes. After
     /// `Memory` only `end` may be called.
     pub fn take(&mut self, alloc: Global, chunk: Chunk) -> Result<Vec<Decided>, Memory>
-        ensures gathered { (r : Rules) (chunks : List NamedChunk) (gone : List (NamedChunk × Hows)) → HasGathered self.old r chunks gone
-            → IfOk result (λ ds. HasGathered self.new r (chunks ++ named_chunk chunk ∷ []) (gone ++ parts_of ds.items)) }
+        ensures gathered { (r : Rules) (chunks : List NamedChunk) (gone : List (NamedChunk × Hows))
+            → HasGathered self.old r chunks gone
+            → IfOk result
+            (λ ds. HasGathered self.new r (chunks ++ named_chunk chunk ∷ []) (gone ++ parts_of ds.items)) }
         ensures index { index_of self.new ≡ index_of self.old }
     {
         match self.segmenter.push(chunk.len()) {
@@ -76,7 +79,8 @@ impl Gatherer {
 
     /// The decisions on what is left.
     pub fn finish(&mut self, alloc: Global) -> Result<Vec<Decided>, Memory>
-        ensures decided { (r : Rules) (chunks : List NamedChunk) (gone : List (NamedChunk × Hows)) → HasGathered self.old r chunks gone
+        ensures decided { (r : Rules) (chunks : List NamedChunk) (gone : List (NamedChunk × Hows))
+            → HasGathered self.old r chunks gone
             → IfOk result (λ ds. HasDecidedAll (answers_of self.old) r chunks (gone ++ parts_of ds.items)) }
         ensures index { index_of self.new ≡ index_of self.old }
     {

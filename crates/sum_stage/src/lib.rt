@@ -58,7 +58,8 @@ impl SumStage {
     pub fn end(self) -> (Rx<Flow<Bytes>>, Tx<Flow<Bytes>>, Fp)
         ensures ends { (result.0 ≡ self.from) × (result.1 ≡ self.to) }
         ensures sent { result.1.sent ++ self.ready ≡ result.0.taken }
-        ensures sum { (parts : List (List ℕ)) × (result.0.taken ≡ run parts self.over) × (result.2 ≡ fp (concat parts)) }
+        ensures sum { (parts : List (List ℕ)) × (result.0.taken ≡ run parts self.over)
+            × (result.2 ≡ fp (concat parts)) }
     {
         let SumStage { from, to, sum, .. } = self;
         (from, to, sum.finish())

@@ -1,4 +1,3 @@
-use Rattle.std.proofs.Common.{ℕ, List}
 use Rattle.std.proofs.lemmas.Result.{IfOk-weaker}
 use Rattle.word_ranges.proofs.Lines.{of_script}
 use Rattle.script_input.proofs.read_lines.Goals as goal

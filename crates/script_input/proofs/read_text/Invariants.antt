@@ -1,4 +1,4 @@
-use Rattle.std.proofs.Common.{◌≡◌, ◌≤◌, length}
+use Rattle.std.proofs.Common.{◌≤◌, length}
 use Rattle.script_input.specs.Reading.{HasGiven}
 use Rattle.script_input.proofs.read_text.Given as goal
 

@@ -1,4 +1,4 @@
-use Rattle.std.proofs.Common.{◌≡◌, ◌∙◌, ap, sym, arith, ◌++◌, ◌+◌, ◌<◌, length}
+use Rattle.std.proofs.Common.{◌∙◌, ap, sym, arith}
 use Rattle.std.specs.Prelude.{option_to_list}
 use Rattle.backup_pass.proofs.Feeding.{placed_some, placed_none}
 use Rattle.std.proofs.lemmas.List.{length_push}

@@ -1,4 +1,4 @@
-use Rattle.std.proofs.Common.{◌≡◌, ◌∙◌, ap, [], ◌∷◌, ◌++◌, append-nil, sym}
+use Rattle.std.proofs.Common.{◌∙◌, ap, [], ◌∷◌, ◌++◌, append-nil, sym}
 use Rattle.std.specs.Prelude.{option_to_list}
 use Rattle.backup_pass.proofs.Filling.{one_more}
 use Rattle.backup_pass.proofs.placer.fill_all.Goals as goal

@@ -1,4 +1,4 @@
-use Rattle.std.proofs.Common.{◌≡◌, subst}
+use Rattle.std.proofs.Common.{subst}
 use Rattle.rewrite_stage.specs.Deciding.{HasDecided}
 use Rattle.backup_pass.proofs.Filling.{on_ok, OnOk_then, segment_more}
 use Rattle.backup_pass.proofs.placer.place_segment.Goals as goal

@@ -38,7 +38,7 @@ returns-then-floor-index g c = record {
       (c.clean_from.ensures.any_moment (after_delete c.args.set c.args.through c.args.catalog.now.strays.items K) refl (λ tells. even_idle _ _ _ K _ _ r even _ held tells) (even_now _ _ _ K _ _ r even _ here));
   within = λ K r q there. inl (c.clean_from.ensures.within q there);
   few = λ below. omega (arith, c.clean_from.ensures.few below);
-  room = record { names = omega (arith, c.requires.room.names, c.clean_from.ensures.fewer, c.clean_from.ensures.room); ids = c.requires.room.ids };
+  room = record { names = omega (arith, c.requires.room.names, c.clean_from.ensures.fewer.0, c.clean_from.ensures.fewer.1); ids = c.requires.room.ids };
   tells = c.clean_from.ensures.tells;
   gets = c.clean_from.ensures.gets;
   causes = record { later = c.clean_from.ensures.later; each = tt };
@@ -125,7 +125,7 @@ returns g c = record {
       ⊎_elim (λ old. inl (subst (λ l. Contains l n) (sym r.memo.strays) old)) (λ goes. inr goes)
       ((c.forget_versions-count.ensures.strays K c.args.through r up).only n (c.clean_from-2.ensures.within n there));
   few = λ below. omega (arith, c.clean_from-2.ensures.few below, c.raise_floor.ensures.causes.later);
-  room = record { names = omega (arith, c.forget_versions-count.ensures.room.names, c.clean_from-2.ensures.fewer, c.clean_from-2.ensures.room); ids = c.forget_versions-count.ensures.room.ids };
+  room = record { names = omega (arith, c.forget_versions-count.ensures.room.names, c.clean_from-2.ensures.fewer.0, c.clean_from-2.ensures.fewer.1); ids = c.forget_versions-count.ensures.room.ids };
   tells = λ tells. c.clean_from-2.ensures.tells (floor_goes_on _ _ _ _ c.raise_floor.ensures.at_most tells);
   gets = c.clean_from-2.ensures.gets ∙ c.raise_floor.ensures.gets;
   causes = record { later = omega (arith, c.raise_floor.ensures.causes.later, c.clean_from-2.ensures.later); each = tt };

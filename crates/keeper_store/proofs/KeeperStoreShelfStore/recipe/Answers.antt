@@ -1,6 +1,6 @@
 use Rattle.std.proofs.Common.{◌∙◌, sym, subst}
 use Rattle.vault_types.specs.Events.{Core}
-use Rattle.keeper_catalog.specs.View.{View, Keeps}
+use Rattle.keeper_catalog.specs.View.{View}
 use Rattle.command_runner.specs.Showing.{ReadsRecipe}
 use Rattle.keeper_core.specs.Keeping.{IsStateOf}
 use Rattle.keeper_store.proofs.Reading.{reads}

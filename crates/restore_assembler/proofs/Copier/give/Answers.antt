@@ -19,7 +19,7 @@ returns-clause-sum g c =
     let told = g.K.Sink.told in
     subst (λ (s : Copying). OnOk c.give.result ((payloads : ℕ → List ℕ) (before : SinkTold) → HasCopied payloads before (told c.args.sink.now) s
     → IfSome (wanted s) (λ id. c.args.payload.items ≡ payloads id) → wanted (seen_of c.give.new.self) ≡ None → IfSome s.whole (λ whole. fp (version_bytes payloads s.spots) ≡ whole.want))) c.self.view_is
-    (on_ok_weaker c.give.result (λ sum f before copied given over. sum f before copied given (omega (arith, none_left c.give.new.self c.give.ensures.ready over, ap (λ (v : Vec Spot Global). length v.items) c.give.ensures.spots))) c.give.ensures.sum)
+    (on_ok_weaker c.give.result (λ sum f before copied given over. sum f before copied given (omega (arith, none_left c.give.new.self c.give.ensures.ready over, ap (λ (v : Vec Spot Global). length v.items) c.give.ensures.same.0))) c.give.ensures.sum)
 
 pub returns-clause-err : goal.returns-clause-err
 returns-clause-err g c =

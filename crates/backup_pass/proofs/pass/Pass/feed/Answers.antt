@@ -1,4 +1,4 @@
-use Rattle.std.proofs.Common.{◌≡◌, ◌∙◌, ap, refl, sym, map, ◌++◌, [], subst}
+use Rattle.std.proofs.Common.{◌∙◌, ap, refl, sym, map, ◌++◌, subst}
 use Rattle.vault_types.specs.Names.{named_chunk}
 use Rattle.vault_types.specs.Cuts.{settled}
 use Rattle.backup_pass.specs.Passing.{bytes_of_all}

@@ -1,4 +1,4 @@
-use Rattle.std.proofs.Common.{◌≡◌, ◌∙◌, ap, refl, sym, map, ◌++◌, [], subst, length, List, ◌≤◌, ◌+◌}
+use Rattle.std.proofs.Common.{◌≡◌, ◌∙◌, ap, sym, map, ◌++◌, subst, length, List, ◌≤◌, ◌+◌}
 use Rattle.std.specs.Prelude.{filter, option_to_list, IfOk, IfErr, OnOk}
 use Rattle.vault_types.specs.Names.{NamedChunk, named_chunk}
 use Rattle.vault_types.specs.Cuts.{cuts, only_bytes}

@@ -1,4 +1,4 @@
-use Rattle.std.proofs.Common.{◌≡◌, ap, sym, refl, map, []}
+use Rattle.std.proofs.Common.{ap, sym, refl, map, []}
 use Rattle.vault_types.specs.Names.{named_chunk}
 use Rattle.backup_pass.specs.Placing.{only_segment}
 use Rattle.backup_pass.proofs.placer.Placer.new.Goals as goal

@@ -1,4 +1,4 @@
-use Rattle.std.proofs.Common.{◌≡◌, ◌∙◌, ap, refl, map, ◌++◌, ◌∷◌, [], subst}
+use Rattle.std.proofs.Common.{◌∙◌, ap, refl, map, ◌++◌, ◌∷◌, [], subst}
 use Rattle.vault_types.specs.Names.{named_chunk}
 use Rattle.rewrite_stage.specs.Deciding.{looked_up, HasDecided}
 use Rattle.vault_types.specs.Decide.{decisions_of}

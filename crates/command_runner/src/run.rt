@@ -127,7 +127,9 @@ where
                 alloc, host, settings, seed, versions, limits, shelf, input, out, report,
             )
         }
-        Ok(Command::Migrate) => run_migrate::<S, K, I, O, R>(alloc, host, shelf, input, out, report),
+        Ok(Command::Migrate) => run_migrate::<S, K, I, O, R>(
+            alloc, host, shelf, input, out, report,
+        ),
         Ok(Command::Scrub { .. }) => ended_early(alloc, Fault::Usage, shelf, input, out, report),
     }
 }
@@ -203,5 +205,7 @@ where
         (I.told result.input) (O.told result.out) (R.told report.new))
         result.answers.items result.fault }
 {
-    run_command::<S, K, P, I, O, R>(alloc, host, words, limits, shelf, places, input, out, report)
+    run_command::<S, K, P, I, O, R>(
+        alloc, host, words, limits, shelf, places, input, out, report,
+    )
 }

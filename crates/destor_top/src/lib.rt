@@ -53,6 +53,14 @@ where
         result.answers.items result.fault }
 {
     run_words::<S, KeeperStore<S>, P, I, O, R>(
-        alloc, (), words, limits, shelf, places, input, out, report,
+        alloc,
+        (),
+        words,
+        limits,
+        shelf,
+        places,
+        input,
+        out,
+        report,
     )
 }

@@ -114,6 +114,7 @@ fn run_at(alloc: Global, before: Id, bytes: &[u8]) -> Result<(Run, &[u8]), Unrea
 }
 
 // A row of a run, which is a row of the run's container.
+#[derive(Drop)]
 struct RowField {
     id: Id,
 }

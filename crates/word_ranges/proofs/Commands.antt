@@ -70,7 +70,7 @@ of_command name s c =
     (either (bytes_eq name (codes "show")) _ _ c (checked_fine (set_kind ++ version_kind (codes "version")) (λ s. has_value s (codes "version")) show_command s c _ refl (λ each passes. tt))
     (either (bytes_eq name (codes "batch")) _ _ c (checked_fine batch_kinds always batch_command s c _ refl (λ each passes. threads_within batch_kinds s refl refl refl each))
     (either (bytes_eq name (codes "fill")) _ _ c
-    (checked_fine fill_kinds (λ s. has_value s (codes "seed") && has_value s (codes "versions")) fill_command s c _ refl (λ each passes. let p = settings_within fill_kinds s (codes "versions") 1 64 1 refl (omega arith, omega arith) each in (p.0, (p.1, threads_within fill_kinds s refl refl refl each))))
+    (checked_fine fill_kinds (λ s. has_value s (codes "seed") && has_value s (codes "versions")) fill_command s c _ refl (λ each passes. let p = settings_within fill_kinds s (codes "versions") 1 64 1 refl (omega arith, omega arith) each in (p.0, p.1, threads_within fill_kinds s refl refl refl each)))
     (either (bytes_eq name (codes "migrate")) _ _ c (checked_fine [] always (λ s. command.Migrate) s c _ refl (λ each passes. tt))
     (either (bytes_eq name (codes "scrub")) _ _ c (checked_fine workers_kind always scrub_command s c _ refl (λ each passes. tt))
     (none_fine c))))))))

@@ -95,7 +95,11 @@ pub fn run_with<S: Shelf + Drop, P: Places, I: Source + Send + Drop>(
     places: &mut P,
     input: I,
     room: usize,
-) -> Result<Seen<S, I>, Fail> {
+) -> Result<Seen<S, I>, Fail>
+where
+    P::Reader: Drop,
+    P::Writer: Drop,
+{
     let Limits {
         chunks,
         last,

@@ -152,7 +152,11 @@ fn script_is<S: Shelf + Drop, P: Places>(
     row: &Row,
     shelf: S,
     places: &mut P,
-) -> Result<S, Fail> {
+) -> Result<S, Fail>
+where
+    P::Reader: Drop,
+    P::Writer: Drop,
+{
     let source = MemSource::new(row.input.to_vec(alloc)?, 3);
     let seen = run_with(
         alloc, row.words, &STANDARD, shelf, places, source, 1_048_576,

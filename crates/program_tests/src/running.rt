@@ -95,11 +95,7 @@ pub fn run_with<S: Shelf + Drop, P: Places, I: Source + Send + Drop>(
     places: &mut P,
     input: I,
     room: usize,
-) -> Result<Seen<S, I>, Fail>
-where
-    P::Reader: Drop,
-    P::Writer: Drop,
-{
+) -> Result<Seen<S, I>, Fail> {
     let Limits {
         chunks,
         last,

@@ -152,11 +152,7 @@ fn script_is<S: Shelf + Drop, P: Places>(
     row: &Row,
     shelf: S,
     places: &mut P,
-) -> Result<S, Fail>
-where
-    P::Reader: Drop,
-    P::Writer: Drop,
-{
+) -> Result<S, Fail> {
     let source = MemSource::new(row.input.to_vec(alloc)?, 3);
     let seen = run_with(
         alloc, row.words, &STANDARD, shelf, places, source, 1_048_576,

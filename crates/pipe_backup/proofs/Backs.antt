@@ -1,57 +1,41 @@
 -- What a job's end tells of the stream.
-use Rattle.std.proofs.Common.{◌≡◌, ◌⊎◌, inl, inr, ⊎_elim, ℕ, ◌+◌, ◌<◌, ◌≤◌, List, [], ◌∷◌, ◌++◌, length, map, refl, sym, ap, ◌∙◌, subst, Option, Some, None, arith, length-append, Bool}
-use Rattle.std.specs.Prelude.{Result, Ok, Err, IfOk, IfErr}
+use Rattle.std.proofs.Common.{◌≡◌, ◌⊎◌, inl, inr, ⊎_elim, ℕ, ◌<◌, ◌≤◌, List, ◌++◌, length, map, refl, sym, ap, ◌∙◌, subst, Option, Some, None, arith, length-append, Bool, true, false}
 use Rattle.std.specs.List.{concat, AllByRecursion}
+use Rattle.std.proofs.lemmas.List.{length-map}
 use Rattle.std.proofs.lemmas.List.Folds.{concat-append}
 use Rattle.vault_types.specs.declared.Cutting.{Cutting}
 use Rattle.vault_types.specs.declared.Fault.{Fault}
 use Rattle.vault_types.specs.declared.Fault.TheVariants as fault
 use Rattle.vault_types.specs.declared.Flow.{Flow}
-use Rattle.vault_types.specs.declared.Flow.TheVariants as flow
 use Rattle.vault_types.specs.declared.Fp.{Fp}
 use Rattle.vault_types.specs.Cuts.{cuts, settled, settled_len}
-use Rattle.vault_types.specs.Lists.{parts, rest}
-use Rattle.vault_types.specs.Stages.{IsFront}
+use Rattle.vault_types.specs.Decide.{Rules}
+use Rattle.vault_types.specs.Lists.{parts as parts_by, rest}
+use Rattle.vault_types.specs.Stages.{IsFront, decided_parts}
+use Rattle.vault_types.specs.Tables.{Container}
 use Rattle.vault_types.specs.JobRanges.{IsCuttable}
+use Rattle.vault_types.proofs.CutLemmas.{settled_len-stable}
 use Rattle.vault_types.proofs.PartsLemmas.{parts-append}
 use Rattle.vault_traits.specs.Told.{SourceTold, Gives, IsAtEnd}
 use Rattle.fp_index.specs.Index.{found_in}
 use Rattle.rewrite_stage.specs.declared.Decided.{Decided}
-use Rattle.vault_types.proofs.CutLemmas.{settled_len-stable}
 use Rattle.stage_flows.specs.declared.Last.{Last}
 use Rattle.stage_flows.specs.declared.Last.TheVariants as last
 use Rattle.stage_flows.specs.Runs.{run, item_of}
 use Rattle.stage_flows.proofs.Running.{run-one}
-use Rattle.source_reads.specs.Reading.{HasCause, IsOwnEnd, bytes_of}
+use Rattle.source_reads.specs.Reading.{HasCause, IsOwnEnd}
 use Rattle.stage_rules.specs.Chunking.{chunks_of as due_chunks}
 use Rattle.pipe_laws.specs.Pipe.{IsPipeFault}
-use Rattle.pipe_run.specs.Jobs.{IsJobBack, named_item, named_items}
+use Rattle.pipe_run.specs.Jobs.{JobView, IsJobBack, named_items}
 use Rattle.keeper_catalog.specs.View.{View}
 use Rattle.backup_jobs.specs.Backup.{IsBackupFault}
 use Rattle.backup_jobs.specs.declared.closing.Rest.{Rest}
-use Rattle.backup_jobs.specs.declared.closing.StreamEnd.{StreamEnd}
-use Rattle.backup_jobs.specs.Going.{Began, IsUnderway, IsPutStop, IsStopped, HasReadAll, part_of, rules_of}
+use Rattle.backup_jobs.specs.Going.{Began, IsUnderway, IsPutStop, IsStopped, HasPutAll, HasReadAll, part_of, rules_of, chunks_of}
 use Rattle.backup_jobs.proofs.Causes.{put_is_cause}
-use Rattle.pipe_backup.specs.Piping.{IsPiped, IsFillStop}
-
--- what was read, and why it ended
-bytes_run : (reads : List (List ℕ)) (over : Option Last) → bytes_of (run reads over) ≡ concat reads
-bytes_run [] None = refl
-bytes_run [] (Some last.End) = refl
-bytes_run [] (Some (last.Failed f)) = refl
-bytes_run [] (Some last.Stopped) = refl
-bytes_run (x ∷ xs) over = ap (λ l. x ++ l) (bytes_run xs over)
-
-last_cause : (P : Flow (List ℕ) → Type 0) (reads : List (List ℕ)) (l : Last) → AllByRecursion P (run reads (Some l)) → P (item_of l)
-last_cause P [] l a = a.0
-last_cause P (x ∷ xs) l a = last_cause P xs l a.1
-
-named_run : (xs : List Decided) (l : Option Last) → named_items (run xs l) ≡ run (map part_of xs) l
-named_run [] None = refl
-named_run [] (Some last.End) = refl
-named_run [] (Some (last.Failed f)) = refl
-named_run [] (Some last.Stopped) = refl
-named_run (d ∷ ds) l = ap (λ zs. named_item (Flow.Part d) ∷ zs) (named_run ds l)
+use Rattle.pipe_backup.specs.declared.filling.Outcome.{Outcome}
+use Rattle.pipe_backup.specs.declared.filling.Outcome.TheVariants as outcome
+use Rattle.pipe_backup.specs.Piping.{ComesTo, IsFilledFrom, IsJobFor, as_begun}
+use Rattle.pipe_backup.proofs.Flows.{bytes_run, last_cause, named_run}
 
 front_len : {X : Type 0} (xs ys : List X) → IsFront xs ys → length xs ≤ length ys
 front_len xs ys f = let e : length (xs ++ f.0) ≡ length ys = ap length f.1 in omega (arith, length-append xs f.0)
@@ -60,7 +44,7 @@ front_len xs ys f = let e : length (xs ++ f.0) ≡ length ys = ap length f.1 in 
 settled_front : (c : Cutting) → IsCuttable c → (reads all : List (List ℕ)) → IsFront reads all → IsFront (settled (concat reads) c) (settled (concat all) c)
 settled_front c h reads all f =
     let bytes : concat reads ++ concat f.0 ≡ concat all = sym (concat-append reads f.0) ∙ ap concat f.1 in (
-      parts (settled_len c) (rest (settled_len c) (concat reads) ++ concat f.0),
+      parts_by (settled_len c) (rest (settled_len c) (concat reads) ++ concat f.0),
       sym (parts-append (settled_len c) (settled_len-stable c h) (concat reads) (concat f.0)) ∙ ap (λ b. settled b c) bytes,
     )
 
@@ -98,21 +82,16 @@ module _ (b : Began) (now : View) (lens : List ℕ) (to : SourceTold) (taken : L
   many reads None f e n = inl (let l = front_len (settled (concat reads) b.config.cutting) (settled (concat h.reads) b.config.cutting) (settled_front b.config.cutting cuttable reads h.reads f) in omega (arith, l, n))
   many reads (Some (last.Failed g)) f e n = inl (let l = front_len (settled (concat reads) b.config.cutting) (settled (concat h.reads) b.config.cutting) (settled_front b.config.cutting cuttable reads h.reads f) in omega (arith, l, n))
   many reads (Some last.Stopped) f e n = inl (let l = front_len (settled (concat reads) b.config.cutting) (settled (concat h.reads) b.config.cutting) (settled_front b.config.cutting cuttable reads h.reads f) in omega (arith, l, n))
-  many reads (Some last.End) f e n = ⊎_elim (λ (x : ◌≡◌ {A = Option Last} (Some last.End) None). absurd (cc))
-      (λ (x : ((Some last.End) ≡ h.over) × (reads ≡ h.reads)). inr (at_end (sym x.0), subst (λ q. b.limits.chunks < length (cuts (concat q) b.config.cutting)) x.1 n)) e
+  many reads (Some last.End) f (inl e) n = cc
+  many reads (Some last.End) f (inr e) n = inr (at_end (sym e.0), subst (λ q. b.limits.chunks < length (cuts (concat q) b.config.cutting)) e.1 n)
 
   pipe_cause : (f : Fault) → IsPipeFault b.config.cutting b.limits.chunks h.reads h.over f → IsBackupFault b.config b.limits b.keeper.told.faults now.told.faults b.source to (concat h.reads) f
-  pipe_cause f p = ⊎_elim
-      (λ (e : h.over ≡ Some (last.Failed f)). read_cause b now to (concat h.reads) f (subst (IsOwnEnd b.limits.chunks (length (concat h.reads))) e h.ended) (cause (last.Failed f) e))
-      (λ (q : (f ≡ fault.Memory) ⊎ ((f ≡ fault.TooMany b.limits.chunks) × (taken : List (List ℕ)) × (taken_over : Option Last) × IsFront taken h.reads × ((taken_over ≡ None) ⊎ ((taken_over ≡ h.over) × (taken ≡ h.reads))) × (b.limits.chunks < length (due_chunks b.config.cutting taken taken_over)))). ⊎_elim
-      (λ (m : f ≡ fault.Memory). subst (IsBackupFault b.config b.limits b.keeper.told.faults now.told.faults b.source to (concat h.reads)) (sym m) tt)
-      (λ (m : (f ≡ fault.TooMany b.limits.chunks) × (taken : List (List ℕ)) × (taken_over : Option Last) × IsFront taken h.reads × ((taken_over ≡ None) ⊎ ((taken_over ≡ h.over) × (taken ≡ h.reads))) × (b.limits.chunks < length (due_chunks b.config.cutting taken taken_over))).
-      subst (IsBackupFault b.config b.limits b.keeper.told.faults now.told.faults b.source to (concat h.reads)) (sym m.0)
-      (refl, ⊎_elim (λ (x : b.limits.chunks < length (settled (concat h.reads) b.config.cutting)). inl x) (λ (x : IsAtEnd to × (b.limits.chunks < length (cuts (concat h.reads) b.config.cutting))). inr (inl x)) (many m.1 m.2 m.3 m.4 m.5)))
-      q)
-      p
+  pipe_cause f (inl own) = read_cause b now to (concat h.reads) f (subst (IsOwnEnd b.limits.chunks (length (concat h.reads))) own h.ended) (cause (last.Failed f) own)
+  pipe_cause f (inr (inl memory)) = subst (IsBackupFault b.config b.limits b.keeper.told.faults now.told.faults b.source to (concat h.reads)) (sym memory) tt
+  pipe_cause f (inr (inr more)) = subst (IsBackupFault b.config b.limits b.keeper.told.faults now.told.faults b.source to (concat h.reads)) (sym more.0)
+      (refl, ⊎_elim (λ x. inl x) (λ x. inr (inl x)) (many more.1 more.2 more.3 more.4 more.5))
 
-  stop_with : (f : Fault) (containers : List _) → IsUnderway b now containers → IsBackupFault b.config b.limits b.keeper.told.faults now.told.faults b.source to (concat h.reads) f → IsStopped b now to f
+  stop_with : (f : Fault) (containers : List Container) → IsUnderway b now containers → IsBackupFault b.config b.limits b.keeper.told.faults now.told.faults b.source to (concat h.reads) f → IsStopped b now to f
   stop_with f containers under is = record {
     read = concat h.reads;
     given = given;
@@ -126,23 +105,71 @@ module _ (b : Began) (now : View) (lens : List ℕ) (to : SourceTold) (taken : L
   one : (parts : List Decided) (l : Last) → taken ≡ run parts (Some l) → (h.back.parts ≡ map part_of parts) × (h.back.l ≡ Some l)
   one parts l e = run-one h.back.parts (map part_of parts) h.back.l (Some l) (sym h.back.far_is ∙ ap named_items e ∙ named_run parts (Some l))
 
-  pub stopped_back : (result : Result Rest Fault) (f : Fault) → IsPiped b now lens taken result → result ≡ Err f → IsStopped b now to f
-  stopped_back result f p is =
-      let e : IsFillStop b now p.l f = subst (λ (r : Result Rest Fault). IfErr r (IsFillStop b now p.l)) is p.err in
-      ⊎_elim (λ (s : IsPutStop b now f). stop_with f s.containers s.underway (put_is_cause b now to (concat h.reads) f s.cause))
-          (λ (s : (containers : List _) × IsUnderway b now containers × (p.l ≡ last.Failed f)). stop_with f s.0 s.1 (pipe_cause f (h.back.failed f ((one p.parts p.l p.taken_are).1 ∙ ap (λ l. Some l) s.2))))
-          e
+  -- a put stopped, or the job failed
+  pub stopped_back : (parts : List Decided) (l : Last) (f : Fault) → taken ≡ run parts (Some l)
+      → IsPutStop b now f ⊎ ((containers : List Container) × IsUnderway b now containers × (l ≡ last.Failed f)) → IsStopped b now to f
+  stopped_back parts l f at (inl put) = stop_with f put.containers put.underway (put_is_cause b now to (concat h.reads) f put.cause)
+  stopped_back parts l f at (inr failed) = stop_with f failed.0 failed.1 (pipe_cause f (h.back.failed f ((one parts l at).1 ∙ ap (λ k. Some k) failed.2)))
 
-  pub ended_back : (result : Result Rest Fault) (r : Rest) → IsPiped b now lens taken result → result ≡ Ok r → HasReadAll b now to lens (record { rest = r; whole = sum })
-  ended_back result r p is =
-      let o = subst (λ (q : Result Rest Fault). IfOk q _) is p.ok in
-      let at : taken ≡ run p.parts (Some last.End) = p.taken_are ∙ ap (λ l. run p.parts (Some l)) o.0 in
-      let same = one p.parts last.End at in
+  -- all was put
+  pub ended_back : (parts : List Decided) (l : Last) (r : Rest) → taken ≡ run parts (Some l) → l ≡ last.End
+      → ((read : List ℕ) → map part_of parts ≡ decided_parts (found_in b.index) (rules_of b) (chunks_of b.config read) → HasPutAll b now r lens read)
+      → HasReadAll b now to lens (record { rest = r; whole = sum })
+  ended_back parts l r at end put =
+      let at_the_end : taken ≡ run parts (Some last.End) = at ∙ ap (λ k. run parts (Some k)) end in
+      let same = one parts last.End at_the_end in
       let all = h.back.ended same.1 in
       record {
         read = concat h.reads;
         given = given;
         source_later = h.went.later;
         end = at_end all.0;
-        ended = record { put = o.1 (concat h.reads) (sym same.0 ∙ all.1); whole = h.summed p.parts at };
+        ended = record { put = put (concat h.reads) (sym same.0 ∙ all.1); whole = h.summed parts at_the_end };
       }
+
+  -- no more parts came than the limit, and no stop of a job that was not stopped
+  pub never_more : (parts : List Decided) (l : Last) → taken ≡ run parts (Some l) → b.limits.chunks < length parts → ⊥
+  never_more parts l at many =
+      let few = h.back.few in
+      let same : length h.back.parts ≡ length parts = ap length (one parts l at).0 ∙ length-map parts part_of in
+      omega (arith, few, same, many)
+
+  pub never_stopped : (parts : List Decided) (l : Last) → taken ≡ run parts (Some l) → l ≡ last.Stopped → stopped ≡ false → ⊥
+  never_stopped parts l at is not = let stops : stopped ≡ true = h.stopped_by parts (at ∙ ap (λ k. run parts (Some k)) is) in let clash : false ≡ true = sym not ∙ stops in cc
+
+-- the job is that of this backup, also when it is back
+pub back_for : {I : Type 0} (b : Began) (told : I → SourceTold) (from j : JobView I) (to : SourceTold) (sum : Fp) (raised : Bool) → IsJobFor b told from → as_begun j ≡ as_begun from
+    → IsJobBack j.cutting (found_in j.index) j.rules j.limit (told j.source) to j.taken sum j.stopped raised
+    → IsJobBack b.config.cutting (found_in b.index) (rules_of b) b.limits.chunks b.source to j.taken sum j.stopped raised
+back_for {I} b told from j to sum raised is same back =
+    let cutting : j.cutting ≡ b.config.cutting = ap (λ (k : JobView I). k.cutting) same ∙ is.cutting in
+    let index : j.index ≡ b.index = ap (λ (k : JobView I). k.index) same ∙ is.index in
+    let rules : j.rules ≡ rules_of b = ap (λ (k : JobView I). k.rules) same ∙ is.rules in
+    let limit : j.limit ≡ b.limits.chunks = ap (λ (k : JobView I). k.limit) same ∙ is.limit in
+    let source : told j.source ≡ b.source = ap (λ (k : JobView I). told k.source) same ∙ is.source in
+    subst (λ (p : Cutting × List (Fp × List ℕ) × Rules × ℕ × SourceTold). IsJobBack p.0 (found_in p.1) p.2 p.3 p.4 to j.taken sum j.stopped raised)
+    (λ i. (cutting i, index i, rules i, limit i, source i)) back
+
+-- what the filling came to, when the job is back
+pub over_put : {I : Type 0} (b : Began) (now : View) (lens : List ℕ) (from j : JobView I) (to : SourceTold) (sum : Fp) (raised : Bool) (o : Outcome) (r : Rest)
+    → IsCuttable b.config.cutting → IsJobBack b.config.cutting (found_in b.index) (rules_of b) b.limits.chunks b.source to j.taken sum j.stopped raised
+    → IsFilledFrom b now lens from j o → o ≡ outcome.Put r → HasReadAll b now to lens (record { rest = r; whole = sum })
+over_put b now lens from j to sum raised o r can back filled is =
+    let comes : ComesTo b now lens from j filled.parts filled.l (outcome.Put r) = subst (ComesTo b now lens from j filled.parts filled.l) is filled.comes in
+    ended_back b now lens to j.taken sum j.stopped raised can back filled.parts filled.l r filled.taken_are comes.0 comes.1
+
+pub over_failed : {I : Type 0} (b : Began) (now : View) (lens : List ℕ) (from j : JobView I) (to : SourceTold) (sum : Fp) (raised : Bool) (o : Outcome) (f : Fault)
+    → IsCuttable b.config.cutting → IsJobBack b.config.cutting (found_in b.index) (rules_of b) b.limits.chunks b.source to j.taken sum j.stopped raised
+    → IsFilledFrom b now lens from j o → o ≡ outcome.Failed f → IsStopped b now to f
+over_failed b now lens from j to sum raised o f can back filled is =
+    stopped_back b now lens to j.taken sum j.stopped raised can back filled.parts filled.l f filled.taken_are (subst (ComesTo b now lens from j filled.parts filled.l) is filled.comes)
+
+pub never_over : {I : Type 0} (b : Began) (now : View) (lens : List ℕ) (from j : JobView I) (to : SourceTold) (sum : Fp) (raised : Bool) (o : Outcome)
+    → IsCuttable b.config.cutting → IsJobBack b.config.cutting (found_in b.index) (rules_of b) b.limits.chunks b.source to j.taken sum j.stopped raised
+    → from.stopped ≡ false → IsFilledFrom b now lens from j o → o ≡ outcome.Never → ⊥
+never_over b now lens from j to sum raised o can back going filled is =
+    let comes : ComesTo b now lens from j filled.parts filled.l outcome.Never = subst (ComesTo b now lens from j filled.parts filled.l) is filled.comes in
+    ⊎_elim
+    (λ (many : b.limits.chunks < length filled.parts). never_more b now lens to j.taken sum j.stopped raised can back filled.parts filled.l filled.taken_are many)
+    (λ (stop : (filled.l ≡ last.Stopped) × (j.stopped ≡ from.stopped)). never_stopped b now lens to j.taken sum j.stopped raised can back filled.parts filled.l filled.taken_are stop.0 (stop.1 ∙ going))
+    comes

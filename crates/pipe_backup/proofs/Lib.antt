@@ -1,1 +1,3 @@
+pub mod Flows
 pub mod Backs
+pub mod Starts

@@ -2,12 +2,14 @@
 #![tactic(auto)]
 
 mod filling;
+mod line;
 mod piping;
 
 ghost use Rattle.std.specs.Prelude.{◌≡◌, ◌≤◌, None};
 ghost use Rattle.vault_types.specs.JobRanges.{IsInRange};
 ghost use Rattle.backup_jobs.specs.Backup.{BacksUp};
 
+pub use crate::line::backup_line_piped;
 use crate::piping::run;
 use backup_jobs::{Opened, close_job, open_job};
 use container_fill::Filler;

@@ -4,7 +4,7 @@ ghost use Rattle.vault_types.specs.JobRanges.{IsCuttable};
 ghost use Rattle.backup_jobs.specs.Going.{Began, IsOver};
 ghost use Rattle.pipe_backup.specs.Piping.{IsToFill, IsJobFor};
 
-use crate::filling::fill;
+use crate::filling::{Outcome, fill};
 use backup_jobs::StreamEnd;
 use container_fill::Filler;
 use fp_index::Index;
@@ -36,7 +36,8 @@ pub(crate) fn run<I: Source + Drop, R: Threads + Wait + Clock, S: Shelf>(
     let filled = fill(rt, alloc, keeper, &mut job, filler, limit, lens);
     let (source, index, whole, _) = job.end(rt);
     match filled {
-        Err(fault) => (source, index, Err(fault)),
-        Ok(rest) => (source, index, Ok(StreamEnd { rest, whole })),
+        Outcome::Put(rest) => (source, index, Ok(StreamEnd { rest, whole })),
+        Outcome::Failed(fault) => (source, index, Err(fault)),
+        Outcome::Never => unreachable!(),
     }
 }

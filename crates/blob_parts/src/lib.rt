@@ -1,6 +1,7 @@
 //! The parts of which blobs are made, and why a call over a shelf is refused.
 #![tactic(auto)]
 
+mod lists;
 mod reading;
 mod refusals;
 mod rules;
@@ -8,6 +9,7 @@ mod sums;
 mod unread;
 mod writing;
 
+pub use lists::{ReadsField, list_at};
 pub use reading::{fp_at, ids_at, tag_at, u32_at, u64_at};
 pub use refusals::fault_of;
 pub use rules::has_rules;

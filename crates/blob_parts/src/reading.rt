@@ -3,6 +3,7 @@ ghost use Rattle.std.specs.Prelude.{◌≡◌};
 ghost use Rattle.std.specs.Int.{w32, w64};
 ghost use Rattle.blob_parts.specs.Reading.{ReadsAs, number_at, tag_at, fp_at, many_at, wide_at, list_at};
 
+use crate::lists::{ReadsField, list_at};
 use crate::unread::Unread;
 use std::alloc::Global;
 use vault_types::{Fp, Id};
@@ -57,33 +58,23 @@ pub fn fp_at(bytes: &[u8]) -> Result<(Fp, &[u8]), Unread>
     Ok((Fp(sum), rest))
 }
 
+// An id of a sparse list.
+struct SparseId;
+
+impl ReadsField<Id> for SparseId {
+    ghost use Rattle.std.specs.Int.{w64};
+    ghost use Rattle.blob_parts.specs.Reading.{number_at};
+
+    ghost field = { λ s bytes. number_at w64 bytes };
+
+    fn read<'b>(&self, bytes: &'b [u8]) -> Result<(Id, &'b [u8]), Unread> {
+        u64_at(bytes)
+    }
+}
+
 /// The sparse list of a recipe: its length and its ids; and what is behind it.
 pub fn ids_at(alloc: Global, bytes: &[u8]) -> Result<(Vec<Id>, &[u8]), Unread>
     ensures { ReadsAs (λ x. (x.0.items, x.1.now)) result (list_at 8 (number_at w64) bytes.now) }
 {
-    let (count, rest) = u32_at(bytes)?;
-    some_ids(alloc, count, rest)
-}
-
-fn some_ids(alloc: Global, count: u32, bytes: &[u8]) -> Result<(Vec<Id>, &[u8]), Unread>
-    ensures { ReadsAs (λ x. (x.0.items, x.1.now)) result (wide_at 8 (number_at w64) count bytes.now) }
-{
-    let count = count as usize;
-    if bytes.len() < 8 * count {
-        return Err(Unread::Spelling);
-    }
-    many_ids(alloc, count, bytes)
-}
-
-fn many_ids(alloc: Global, count: usize, bytes: &[u8]) -> Result<(Vec<Id>, &[u8]), Unread>
-    ensures { ReadsAs (λ x. (x.0.items, x.1.now)) result (many_at (number_at w64) count bytes.now) }
-{
-    let mut ids = Vec::with_capacity(alloc, count)?;
-    let mut rest = bytes;
-    'ids: for _ in 0..count {
-        let (id, after) = u64_at(rest)?;
-        ids.push(id)?;
-        rest = after;
-    }
-    Ok((ids, rest))
+    list_at(alloc, 8, &SparseId, bytes)
 }

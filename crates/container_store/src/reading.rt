@@ -5,10 +5,10 @@ ghost use Rattle.vault_types.specs.Names.{same_fp};
 ghost use Rattle.vault_types.specs.Tables.{IsTable, payload_len};
 ghost use Rattle.vault_types.specs.Blobs.{SpellsTable};
 ghost use Rattle.vault_types.specs.BlobDamage.{IsNoTable};
-ghost use Rattle.blob_parts.specs.Reading.{ReadsAs, many_at, wide_at, list_at};
-ghost use Rattle.container_store.specs.Reading.{table_row_at, table_at, HasTableWidths};
+ghost use Rattle.blob_parts.specs.Reading.{ReadsAs};
+ghost use Rattle.container_store.specs.Reading.{table_at, HasTableWidths};
 
-use blob_parts::{Unread, body_of, fp_at, tag_at, u32_at, u64_at};
+use blob_parts::{ReadsField, Unread, body_of, fp_at, list_at, tag_at, u32_at, u64_at};
 use std::alloc::Global;
 use std::collections::HashSet;
 use vault_types::list::ListOf;
@@ -81,7 +81,7 @@ fn table_at(alloc: Global, bytes: &[u8]) -> Result<(Table, &[u8]), Unread>
 {
     let rest = tag_at(bytes, TAG)?;
     let (id, rest) = u64_at(rest)?;
-    let (rows, rest) = rows_at(alloc, rest)?;
+    let (rows, rest) = list_at(alloc, 24, &RowField, rest)?;
     let (payload_sum, rest) = fp_at(rest)?;
     let table = Table {
         id,
@@ -91,40 +91,17 @@ fn table_at(alloc: Global, bytes: &[u8]) -> Result<(Table, &[u8]), Unread>
     Ok((table, rest))
 }
 
-fn rows_at(alloc: Global, bytes: &[u8]) -> Result<(Vec<TableRow>, &[u8]), Unread>
-    ensures { ReadsAs (λ x. (x.0.items, x.1.now)) result (list_at 24 table_row_at bytes.now) }
-{
-    let (count, rest) = u32_at(bytes)?;
-    some_rows(alloc, count, rest)
-}
+// A row of a table.
+struct RowField;
 
-fn some_rows(alloc: Global, count: u32, bytes: &[u8]) -> Result<(Vec<TableRow>, &[u8]), Unread>
-    ensures { ReadsAs (λ x. (x.0.items, x.1.now)) result (wide_at 24 table_row_at count bytes.now) }
-{
-    let count = count as usize;
-    if bytes.len() < 24 * count {
-        return Err(Unread::Spelling);
+impl ReadsField<TableRow> for RowField {
+    ghost use Rattle.container_store.specs.Reading.{table_row_at};
+
+    ghost field = { λ s bytes. table_row_at bytes };
+
+    fn read<'b>(&self, bytes: &'b [u8]) -> Result<(TableRow, &'b [u8]), Unread> {
+        let (fp, rest) = fp_at(bytes)?;
+        let (len, rest) = u32_at(rest)?;
+        Ok((TableRow { fp, len }, rest))
     }
-    many_rows(alloc, count, bytes)
-}
-
-fn many_rows(alloc: Global, count: usize, bytes: &[u8]) -> Result<(Vec<TableRow>, &[u8]), Unread>
-    ensures { ReadsAs (λ x. (x.0.items, x.1.now)) result (many_at table_row_at count bytes.now) }
-{
-    let mut rows = Vec::with_capacity(alloc, count)?;
-    let mut rest = bytes;
-    'rows: for _ in 0..count {
-        let (row, after) = row_at(rest)?;
-        rows.push(row)?;
-        rest = after;
-    }
-    Ok((rows, rest))
-}
-
-fn row_at(bytes: &[u8]) -> Result<(TableRow, &[u8]), Unread>
-    ensures { ReadsAs (λ x. (x.0, x.1.now)) result (table_row_at bytes.now) }
-{
-    let (fp, rest) = fp_at(bytes)?;
-    let (len, rest) = u32_at(rest)?;
-    Ok((TableRow { fp, len }, rest))
 }

@@ -22,7 +22,7 @@ use vault_types::Limits;
 /// `StoreFault`, `Damaged` and `Memory` of the opening, which writes nothing. A line that is refused has its fault as its
 /// answer, and leaves the versions of the store. The report is on `out`, and on `report` where `out` gets a version; one
 /// that could not be written is a `WriteFault`, and what was done stands.
-pub fn run_plain<S: Shelf, P: Places, I: Source + Send, O: Sink + Send, R: Sink>(
+pub fn run_plain<S: Shelf, P: Places, I: Source + Drop + Send, O: Sink + Send, R: Sink>(
     alloc: Global,
     words: &[String],
     limits: &Limits,
@@ -32,6 +32,9 @@ pub fn run_plain<S: Shelf, P: Places, I: Source + Send, O: Sink + Send, R: Sink>
     out: O,
     report: &mut R,
 ) -> Ended<S, I, O>
+where
+    P::Reader: Drop,
+    P::Writer: Drop,
     requires chunks { 1 ≤ limits.now.chunks }
     requires chunks_high { limits.now.chunks ≤ 4194304 }
     requires last { 1 ≤ limits.now.last }
@@ -50,6 +53,14 @@ pub fn run_plain<S: Shelf, P: Places, I: Source + Send, O: Sink + Send, R: Sink>
         result.answers.items result.fault }
 {
     run_words::<S, KeeperStore<S>, P, I, O, R>(
-        alloc, words, limits, shelf, places, input, out, report,
+        alloc,
+        (),
+        words,
+        limits,
+        shelf,
+        places,
+        input,
+        out,
+        report,
     )
 }

@@ -4,15 +4,15 @@
 use command_runner::ShelfStore;
 use keeper_core::Keeper;
 use script_laws::StateKeeper;
-use script_runner::LineStore;
+use script_runner::{Done, LineStore, ScriptStore, ThreadSettings, script_plain};
 use serial_backup::backup_line;
 use serial_delete::delete_plain;
 use serial_migrate::migrate_plain;
 use serial_restore::restore_plain;
 use std::alloc::Global;
 use std::marker::Model;
-use vault_traits::{Shelf, Sink, Source};
-use vault_types::{Answer, Fault, Id, JobConfig, Limits, Recipe, Set, Version};
+use vault_traits::{Places, Shelf, Sink, Source};
+use vault_types::{Answer, Fault, Id, JobConfig, Limits, Line, Memory, Recipe, Set, Version};
 
 /// A keeper between two lines.
 #[derive(Drop)]
@@ -71,15 +71,17 @@ impl<S: Shelf> LineStore for KeeperStore<S> {
         self.keeper.next_id()
     }
 
-    fn back_up<I: Source>(
+    fn back_up<I: Source + Drop + Send>(
         &mut self,
         alloc: Global,
         set: Set,
-        source: &mut I,
+        source: I,
         config: &JobConfig,
         limits: &Limits,
-    ) -> Result<Answer, Fault> {
-        backup_line(alloc, &mut self.keeper, set, source, config, limits)
+    ) -> (I, Result<Answer, Fault>) {
+        let mut source = source;
+        let answer = backup_line(alloc, &mut self.keeper, set, &mut source, config, limits);
+        (source, answer)
     }
 
     fn restore<O: Sink>(
@@ -98,8 +100,35 @@ impl<S: Shelf> LineStore for KeeperStore<S> {
     }
 }
 
+impl<S: Shelf> ScriptStore for KeeperStore<S> {
+    ghost use Rattle.std.specs.Prelude.{true};
+
+    ghost in_order = { true };
+
+    fn run_script<P: Places>(
+        self,
+        alloc: Global,
+        lines: &[Line],
+        places: &mut P,
+        limits: &Limits,
+    ) -> Result<Done<Self>, (Memory, Self)>
+    where
+        P::Reader: Drop,
+        P::Writer: Drop,
+    {
+        script_plain(alloc, self, lines, places, limits)
+    }
+}
+
 impl<S: Shelf> ShelfStore<S> for KeeperStore<S> {
-    fn start(alloc: Global, shelf: S) -> Result<Self, (Fault, S)> {
+    type Host = ();
+
+    fn start(
+        alloc: Global,
+        _host: (),
+        _settings: ThreadSettings,
+        shelf: S,
+    ) -> Result<Self, (Fault, S)> {
         match Keeper::start(alloc, shelf) {
             Ok(keeper) => Ok(KeeperStore { keeper }),
             Err(back) => Err(back),

@@ -1,12 +1,14 @@
 // Reading a recipe in format 2.
 ghost use Rattle.std.specs.Prelude.{◌≡◌, IfOk, IsErrOf};
 ghost use Rattle.vault_types.specs.declared.Recipe.{Recipe as Recipes};
-ghost use Rattle.blob_parts.specs.Reading.{ReadsAs, many_at, wide_at, list_at};
+ghost use Rattle.blob_parts.specs.Reading.{ReadsAs};
 ghost use Rattle.recipe_form2.specs.Spelling.{SpellsRecipe2, IsNoRecipe2};
-ghost use Rattle.recipe_form2.specs.Reading.{row_at, run_at, runs_at, all_runs_at, rows_at, recipe_at};
+ghost use Rattle.recipe_form2.specs.Reading.{run_at, runs_at, all_runs_at, rows_at, recipe_at};
 ghost use Rattle.recipe_form2.specs.Runs.{run_seen};
 
-use blob_parts::{Unread, body_of, fp_at, has_rules, ids_at, tag_at, u32_at, u64_at};
+use blob_parts::{
+    ReadsField, Unread, body_of, fp_at, has_rules, ids_at, list_at, tag_at, u32_at, u64_at,
+};
 use std::alloc::Global;
 use vault_types::list::ListOf;
 use vault_types::{Id, Memory, Recipe, Row, Set, Version};
@@ -104,47 +106,34 @@ fn run_at(alloc: Global, before: Id, bytes: &[u8]) -> Result<(Run, &[u8]), Unrea
     ensures { ReadsAs (λ x. (run_seen x.0.id x.0.rows.items, x.1.now)) result (run_at before bytes.now) }
 {
     let (id, rest) = u64_at(bytes)?;
-    let (rows, rest) = run_rows(alloc, id, rest)?;
+    let (rows, rest) = list_at(alloc, 24, &RowField { id }, rest)?;
     if id == before || rows.is_empty() {
         return Err(Unread::Spelling);
     }
     Ok((Run { id, rows }, rest))
 }
 
-fn run_rows(alloc: Global, id: Id, bytes: &[u8]) -> Result<(Vec<Row>, &[u8]), Unread>
-    ensures { ReadsAs (λ x. (x.0.items, x.1.now)) result (list_at 24 (row_at id) bytes.now) }
-{
-    let (count, rest) = u32_at(bytes)?;
-    some_rows(alloc, id, count, rest)
+// A row of a run, which is a row of the run's container.
+#[derive(Drop)]
+struct RowField {
+    id: Id,
 }
 
-fn some_rows(alloc: Global, id: Id, count: u32, bytes: &[u8]) -> Result<(Vec<Row>, &[u8]), Unread>
-    ensures { ReadsAs (λ x. (x.0.items, x.1.now)) result (wide_at 24 (row_at id) count bytes.now) }
-{
-    let count = count as usize;
-    if bytes.len() < 24 * count {
-        return Err(Unread::Spelling);
+impl ReadsField<Row> for RowField {
+    ghost use Rattle.recipe_form2.specs.Reading.{row_at};
+
+    ghost field = { λ s bytes. row_at s.id bytes };
+
+    fn read<'b>(&self, bytes: &'b [u8]) -> Result<(Row, &'b [u8]), Unread> {
+        let (fp, rest) = fp_at(bytes)?;
+        let (len, rest) = u32_at(rest)?;
+        Ok((
+            Row {
+                fp,
+                id: self.id,
+                len,
+            },
+            rest,
+        ))
     }
-    many_rows(alloc, id, count, bytes)
-}
-
-fn many_rows(alloc: Global, id: Id, count: usize, bytes: &[u8]) -> Result<(Vec<Row>, &[u8]), Unread>
-    ensures { ReadsAs (λ x. (x.0.items, x.1.now)) result (many_at (row_at id) count bytes.now) }
-{
-    let mut rows = Vec::with_capacity(alloc, count)?;
-    let mut rest = bytes;
-    'rows: for _ in 0..count {
-        let (row, after) = row_at(id, rest)?;
-        rows.push(row)?;
-        rest = after;
-    }
-    Ok((rows, rest))
-}
-
-fn row_at(id: Id, bytes: &[u8]) -> Result<(Row, &[u8]), Unread>
-    ensures { ReadsAs (λ x. (x.0, x.1.now)) result (row_at id bytes.now) }
-{
-    let (fp, rest) = fp_at(bytes)?;
-    let (len, rest) = u32_at(rest)?;
-    Ok((Row { fp, id, len }, rest))
 }

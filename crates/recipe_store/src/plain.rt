@@ -3,12 +3,12 @@ ghost use Rattle.std.specs.Prelude.{◌≡◌, ◌++◌, ◌<◌, ◌^◌, lengt
 ghost use Rattle.std.specs.Int.{w64};
 ghost use Rattle.vault_types.specs.declared.Recipe.{Recipe as Recipes};
 ghost use Rattle.vault_types.specs.Blobs.{recipe_bytes_1, row_bytes_1, IsRecipe, SpellsRecipe};
-ghost use Rattle.blob_parts.specs.Reading.{ReadsAs, many_at, wide_at, list_at};
-ghost use Rattle.recipe_store.specs.Plain.{row_at, plain_at};
+ghost use Rattle.blob_parts.specs.Reading.{ReadsAs};
+ghost use Rattle.recipe_store.specs.Plain.{plain_at};
 
 use blob_parts::{
-    Unread, body_of, fp_at, has_rules, ids_at, push_sparse, push_sum, push_u32, push_u64, tag_at,
-    u32_at, u64_at,
+    ReadsField, Unread, body_of, fp_at, has_rules, ids_at, list_at, push_sparse, push_sum,
+    push_u32, push_u64, tag_at, u32_at, u64_at,
 };
 use std::alloc::{AllocError, Global};
 use vault_types::list::ListOf;
@@ -82,7 +82,7 @@ fn plain_at(alloc: Global, bytes: &[u8], set: Set) -> Result<(Recipe, &[u8]), Un
     let (version, rest) = u32_at(rest)?;
     let (next, rest) = u64_at(rest)?;
     let (length, rest) = u64_at(rest)?;
-    let (rows, rest) = rows_at(alloc, rest)?;
+    let (rows, rest) = list_at(alloc, 32, &RowField, rest)?;
     let (sparse, rest) = ids_at(alloc, rest)?;
     let recipe = Recipe {
         set,
@@ -96,41 +96,18 @@ fn plain_at(alloc: Global, bytes: &[u8], set: Set) -> Result<(Recipe, &[u8]), Un
     Ok((recipe, rest))
 }
 
-fn rows_at(alloc: Global, bytes: &[u8]) -> Result<(Vec<Row>, &[u8]), Unread>
-    ensures { ReadsAs (λ x. (x.0.items, x.1.now)) result (list_at 32 row_at bytes.now) }
-{
-    let (count, rest) = u32_at(bytes)?;
-    some_rows(alloc, count, rest)
-}
+// A row of the first format.
+struct RowField;
 
-fn some_rows(alloc: Global, count: u32, bytes: &[u8]) -> Result<(Vec<Row>, &[u8]), Unread>
-    ensures { ReadsAs (λ x. (x.0.items, x.1.now)) result (wide_at 32 row_at count bytes.now) }
-{
-    let count = count as usize;
-    if bytes.len() < 32 * count {
-        return Err(Unread::Spelling);
+impl ReadsField<Row> for RowField {
+    ghost use Rattle.recipe_store.specs.Plain.{row_at};
+
+    ghost field = { λ s bytes. row_at bytes };
+
+    fn read<'b>(&self, bytes: &'b [u8]) -> Result<(Row, &'b [u8]), Unread> {
+        let (fp, rest) = fp_at(bytes)?;
+        let (id, rest) = u64_at(rest)?;
+        let (len, rest) = u32_at(rest)?;
+        Ok((Row { fp, id, len }, rest))
     }
-    many_rows(alloc, count, bytes)
-}
-
-fn many_rows(alloc: Global, count: usize, bytes: &[u8]) -> Result<(Vec<Row>, &[u8]), Unread>
-    ensures { ReadsAs (λ x. (x.0.items, x.1.now)) result (many_at row_at count bytes.now) }
-{
-    let mut rows = Vec::with_capacity(alloc, count)?;
-    let mut rest = bytes;
-    'rows: for _ in 0..count {
-        let (row, after) = row_at(rest)?;
-        rows.push(row)?;
-        rest = after;
-    }
-    Ok((rows, rest))
-}
-
-fn row_at(bytes: &[u8]) -> Result<(Row, &[u8]), Unread>
-    ensures { ReadsAs (λ x. (x.0, x.1.now)) result (row_at bytes.now) }
-{
-    let (fp, rest) = fp_at(bytes)?;
-    let (id, rest) = u64_at(rest)?;
-    let (len, rest) = u32_at(rest)?;
-    Ok((Row { fp, id, len }, rest))
 }

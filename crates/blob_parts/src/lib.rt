@@ -9,8 +9,8 @@ mod sums;
 mod unread;
 mod writing;
 
-pub use lists::{ReadsField, list_at};
-pub use reading::{fp_at, ids_at, tag_at, u32_at, u64_at};
+pub use lists::{FieldReader, ids_at, list_at};
+pub use reading::{fp_at, tag_at, u32_at, u64_at};
 pub use refusals::fault_of;
 pub use rules::has_rules;
 pub use sums::{body_of, push_sum, sum_of};

@@ -1,12 +1,10 @@
 // Reading a blob from left to right.
 ghost use Rattle.std.specs.Prelude.{◌≡◌};
 ghost use Rattle.std.specs.Int.{w32, w64};
-ghost use Rattle.blob_parts.specs.Reading.{ReadsAs, number_at, tag_at, fp_at, many_at, wide_at, list_at};
+ghost use Rattle.blob_parts.specs.Reading.{ReadsAs, number_at, tag_at, fp_at};
 
-use crate::lists::{ReadsField, list_at};
 use crate::unread::Unread;
-use std::alloc::Global;
-use vault_types::{Fp, Id};
+use vault_types::Fp;
 
 /// The number in the next four bytes, and what is behind it.
 pub fn u32_at(bytes: &[u8]) -> Result<(u32, &[u8]), Unread>
@@ -56,25 +54,4 @@ pub fn fp_at(bytes: &[u8]) -> Result<(Fp, &[u8]), Unread>
     let mut sum = [0; 20];
     sum.copy_from_slice(front);
     Ok((Fp(sum), rest))
-}
-
-// An id of a sparse list.
-struct SparseId;
-
-impl ReadsField<Id> for SparseId {
-    ghost use Rattle.std.specs.Int.{w64};
-    ghost use Rattle.blob_parts.specs.Reading.{number_at};
-
-    ghost field = { λ s bytes. number_at w64 bytes };
-
-    fn read<'b>(&self, bytes: &'b [u8]) -> Result<(Id, &'b [u8]), Unread> {
-        u64_at(bytes)
-    }
-}
-
-/// The sparse list of a recipe: its length and its ids; and what is behind it.
-pub fn ids_at(alloc: Global, bytes: &[u8]) -> Result<(Vec<Id>, &[u8]), Unread>
-    ensures { ReadsAs (λ x. (x.0.items, x.1.now)) result (list_at 8 (number_at w64) bytes.now) }
-{
-    list_at(alloc, 8, &SparseId, bytes)
 }

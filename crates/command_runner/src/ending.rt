@@ -6,6 +6,7 @@ ghost use Rattle.store_model.specs.Leaves.{Begins};
 ghost use Rattle.store_model.specs.Steps.{answer_of};
 ghost use Rattle.store_model.specs.Strays.{StraysOf};
 ghost use Rattle.store_model.specs.Early.{HasOpened, IsSameBut, IsStartFault};
+ghost use Rattle.store_model.specs.Ranges.{AreThreadSettings};
 ghost use Rattle.store_model.specs.World as spec;
 ghost use Rattle.store_model.specs.World.{IsPrinted, IsTold, report_text};
 

@@ -6,9 +6,9 @@ ghost use Rattle.vault_types.specs.Tables.{IsTable, payload_len};
 ghost use Rattle.vault_types.specs.Blobs.{SpellsTable};
 ghost use Rattle.vault_types.specs.BlobDamage.{IsNoTable};
 ghost use Rattle.blob_parts.specs.Reading.{ReadsAs};
-ghost use Rattle.container_store.specs.Reading.{table_at, HasTableWidths};
+ghost use Rattle.container_store.specs.Reading.{table_row_at, table_at, HasTableWidths};
 
-use blob_parts::{ReadsField, Unread, body_of, fp_at, list_at, tag_at, u32_at, u64_at};
+use blob_parts::{FieldReader, Unread, body_of, fp_at, list_at, tag_at, u32_at, u64_at};
 use std::alloc::Global;
 use std::collections::HashSet;
 use vault_types::list::ListOf;
@@ -81,7 +81,7 @@ fn table_at(alloc: Global, bytes: &[u8]) -> Result<(Table, &[u8]), Unread>
 {
     let rest = tag_at(bytes, TAG)?;
     let (id, rest) = u64_at(rest)?;
-    let (rows, rest) = list_at(alloc, 24, &RowField, rest)?;
+    let (rows, rest) = list_at(alloc, 24, &TableRows, rest)?;
     let (payload_sum, rest) = fp_at(rest)?;
     let table = Table {
         id,
@@ -91,15 +91,15 @@ fn table_at(alloc: Global, bytes: &[u8]) -> Result<(Table, &[u8]), Unread>
     Ok((table, rest))
 }
 
-// A row of a table.
-struct RowField;
+// The rows of a table.
+struct TableRows;
 
-impl ReadsField<TableRow> for RowField {
-    ghost use Rattle.container_store.specs.Reading.{table_row_at};
+impl FieldReader for TableRows {
+    type Item = TableRow;
 
-    ghost field = { λ s bytes. table_row_at bytes };
+    ghost field = { λ s. table_row_at };
 
-    fn read<'b>(&self, bytes: &'b [u8]) -> Result<(TableRow, &'b [u8]), Unread> {
+    fn read<'a>(&self, bytes: &'a [u8]) -> Result<(TableRow, &'a [u8]), Unread> {
         let (fp, rest) = fp_at(bytes)?;
         let (len, rest) = u32_at(rest)?;
         Ok((TableRow { fp, len }, rest))

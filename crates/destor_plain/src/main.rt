@@ -1,16 +1,10 @@
 //! Runs a command of the store on one thread, over the folder that the first word names: `destor_plain FOLDER WORD ..`.
 #![tactic(auto)]
 
-ghost use Rattle.std.specs.Prelude.{◌≡◌};
-ghost use Rattle.std.specs.Process.{exit_status};
-ghost use Rattle.vault_types.specs.Texts.{status_of};
-ghost use Rattle.store_model.specs.World.{IsTold};
-
-use destor_top::{run_plain, tell};
+use destor_top::run_plain;
 use folder_shelf::{ErrSink, FolderPlaces, FolderShelf, InSource, OutSink};
+use program_words::{refuse, words_of};
 use std::process::ExitCode;
-use std::{env, io};
-use vault_traits::Sink;
 use vault_types::{Fault, Limits};
 
 fn main(rt: HostRuntime) -> ExitCode {
@@ -39,22 +33,4 @@ fn main(rt: HostRuntime) -> ExitCode {
         &mut err,
     );
     ExitCode::from(ended.status)
-}
-
-// The words after the program's name.
-fn words_of<R: env::Env + AllocGlobal>(rt: &R) -> Result<Vec<String>, Fault> {
-    match env::args(rt) {
-        Ok(words) => Ok(words.skip(1).collect(rt.alloc())?),
-        Err(e) if e.kind() == io::ErrorKind::OutOfMemory => Err(Fault::Memory),
-        Err(_) => Err(Fault::Usage),
-    }
-}
-
-// Tells the fault, and ends with its status.
-fn refuse<R: Sink>(fault: Fault, report: &mut R) -> ExitCode
-    ensures status { exit_status result ≡ status_of fault }
-    ensures line { IsTold fault (R.told report.old) (R.told report.new) }
-{
-    tell(&fault, report);
-    ExitCode::from(fault.status())
 }

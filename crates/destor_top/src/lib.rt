@@ -10,8 +10,7 @@ ghost use Rattle.command_runner.specs.Unbuilt.{Unbuilt};
 
 pub use command_runner::Ended;
 use command_runner::run_words;
-use keeper_store::KeeperStore;
-pub use report_printer::tell;
+use keeper_store::{KeeperStore, OneThread};
 use std::alloc::Global;
 use vault_traits::{Places, Shelf, Sink, Source};
 use vault_types::Limits;
@@ -52,15 +51,7 @@ where
         (I.told result.input) (O.told result.out) (R.told report.new))
         result.answers.items result.fault }
 {
-    run_words::<S, KeeperStore<S>, P, I, O, R>(
-        alloc,
-        (),
-        words,
-        limits,
-        shelf,
-        places,
-        input,
-        out,
-        report,
+    run_words::<S, KeeperStore<S, OneThread>, P, I, O, R>(
+        alloc, OneThread, words, limits, shelf, places, input, out, report,
     )
 }

@@ -1,11 +1,13 @@
 //! The store that the program's words run on: a keeper with no job and no pin, whose calls run lines.
 #![tactic(auto)]
 
+mod way;
+
+pub use crate::way::{BackupWay, OneThread};
 use command_runner::ShelfStore;
 use keeper_core::Keeper;
 use script_laws::StateKeeper;
 use script_runner::{Done, LineStore, ScriptStore, ThreadSettings, script_plain};
-use serial_backup::backup_line;
 use serial_delete::delete_plain;
 use serial_migrate::migrate_plain;
 use serial_restore::restore_plain;
@@ -14,17 +16,20 @@ use std::marker::Model;
 use vault_traits::{Places, Shelf, Sink, Source};
 use vault_types::{Answer, Fault, Id, JobConfig, Limits, Line, Memory, Recipe, Set, Version};
 
-/// A keeper between two lines.
+/// A keeper between two lines, and how its backups run.
 #[derive(Drop)]
-pub struct KeeperStore<S: Shelf> {
+pub struct KeeperStore<S: Shelf, W: BackupWay> {
     keeper: Keeper<S>,
+    way: W,
+    settings: ThreadSettings,
 }
 
-impl<S: Shelf> Model for KeeperStore<S> {
+impl<S: Shelf, W: BackupWay> Model for KeeperStore<S, W> {
     ghost use Rattle.std.specs.Coded.{codes};
     ghost use Rattle.std.specs.Prelude.{◌≡◌, [], None};
     ghost use Rattle.vault_traits.specs.Codes.{coded_blobs, coded_history};
     ghost use Rattle.keeper_catalog.specs.View.{View};
+    ghost use Rattle.store_model.specs.Ranges.{AreThreadSettings};
 
     ghost Value = { View };
 
@@ -32,10 +37,11 @@ impl<S: Shelf> Model for KeeperStore<S> {
 
     ghost view = { λ k. k.keeper };
 
-    ghost invariant = { λ k. (k.keeper.job ≡ None) × (k.keeper.pins ≡ []) };
+    ghost invariant = { λ k. (k.keeper.job ≡ None) × (k.keeper.pins ≡ [])
+        × AreThreadSettings k.settings.queue k.settings.lanes k.settings.workers };
 }
 
-impl<S: Shelf> StateKeeper for KeeperStore<S> {
+impl<S: Shelf, W: BackupWay> StateKeeper for KeeperStore<S, W> {
     ghost use Rattle.keeper_core.specs.Keeping.{IsStateOf, IsKnownStray};
     ghost use Rattle.keeper_store.specs.Kept.{kept_of, known_of};
 
@@ -50,7 +56,7 @@ impl<S: Shelf> StateKeeper for KeeperStore<S> {
     ghost strays_known = { λ k S other keep n stray. known_of k S other keep n stray };
 }
 
-impl<S: Shelf> LineStore for KeeperStore<S> {
+impl<S: Shelf, W: BackupWay> LineStore for KeeperStore<S, W> {
     fn full(&self, set: Set, limits: &Limits) -> bool {
         self.keeper.full(set, limits)
     }
@@ -79,9 +85,15 @@ impl<S: Shelf> LineStore for KeeperStore<S> {
         config: &JobConfig,
         limits: &Limits,
     ) -> (I, Result<Answer, Fault>) {
-        let mut source = source;
-        let answer = backup_line(alloc, &mut self.keeper, set, &mut source, config, limits);
-        (source, answer)
+        self.way.back_up(
+            alloc,
+            self.settings,
+            &mut self.keeper,
+            set,
+            source,
+            config,
+            limits,
+        )
     }
 
     fn restore<O: Sink>(
@@ -100,7 +112,7 @@ impl<S: Shelf> LineStore for KeeperStore<S> {
     }
 }
 
-impl<S: Shelf> ScriptStore for KeeperStore<S> {
+impl<S: Shelf, W: BackupWay> ScriptStore for KeeperStore<S, W> {
     ghost use Rattle.std.specs.Prelude.{true};
 
     ghost in_order = { true };
@@ -120,17 +132,21 @@ impl<S: Shelf> ScriptStore for KeeperStore<S> {
     }
 }
 
-impl<S: Shelf> ShelfStore<S> for KeeperStore<S> {
-    type Host = ();
+impl<S: Shelf, W: BackupWay> ShelfStore<S> for KeeperStore<S, W> {
+    type Host = W;
 
     fn start(
         alloc: Global,
-        _host: (),
-        _settings: ThreadSettings,
+        host: W,
+        settings: ThreadSettings,
         shelf: S,
     ) -> Result<Self, (Fault, S)> {
         match Keeper::start(alloc, shelf) {
-            Ok(keeper) => Ok(KeeperStore { keeper }),
+            Ok(keeper) => Ok(KeeperStore {
+                keeper,
+                way: host,
+                settings,
+            }),
             Err(back) => Err(back),
         }
     }

@@ -3,11 +3,11 @@ ghost use Rattle.std.specs.Prelude.{◌≡◌, IfOk, IsErrOf};
 ghost use Rattle.vault_types.specs.declared.Recipe.{Recipe as Recipes};
 ghost use Rattle.blob_parts.specs.Reading.{ReadsAs};
 ghost use Rattle.recipe_form2.specs.Spelling.{SpellsRecipe2, IsNoRecipe2};
-ghost use Rattle.recipe_form2.specs.Reading.{run_at, runs_at, all_runs_at, rows_at, recipe_at};
+ghost use Rattle.recipe_form2.specs.Reading.{row_at, run_at, runs_at, all_runs_at, rows_at, recipe_at};
 ghost use Rattle.recipe_form2.specs.Runs.{run_seen};
 
 use blob_parts::{
-    ReadsField, Unread, body_of, fp_at, has_rules, ids_at, list_at, tag_at, u32_at, u64_at,
+    FieldReader, Unread, body_of, fp_at, has_rules, ids_at, list_at, tag_at, u32_at, u64_at,
 };
 use std::alloc::Global;
 use vault_types::list::ListOf;
@@ -106,34 +106,28 @@ fn run_at(alloc: Global, before: Id, bytes: &[u8]) -> Result<(Run, &[u8]), Unrea
     ensures { ReadsAs (λ x. (run_seen x.0.id x.0.rows.items, x.1.now)) result (run_at before bytes.now) }
 {
     let (id, rest) = u64_at(bytes)?;
-    let (rows, rest) = list_at(alloc, 24, &RowField { id }, rest)?;
+    let (rows, rest) = list_at(alloc, 24, &RunRows { id }, rest)?;
     if id == before || rows.is_empty() {
         return Err(Unread::Spelling);
     }
     Ok((Run { id, rows }, rest))
 }
 
-// A row of a run, which is a row of the run's container.
+// The rows of a run of this container.
 #[derive(Drop)]
-struct RowField {
+struct RunRows {
     id: Id,
 }
 
-impl ReadsField<Row> for RowField {
-    ghost use Rattle.recipe_form2.specs.Reading.{row_at};
+impl FieldReader for RunRows {
+    type Item = Row;
 
-    ghost field = { λ s bytes. row_at s.id bytes };
+    ghost field = { λ s. row_at s.id };
 
-    fn read<'b>(&self, bytes: &'b [u8]) -> Result<(Row, &'b [u8]), Unread> {
+    fn read<'a>(&self, bytes: &'a [u8]) -> Result<(Row, &'a [u8]), Unread> {
         let (fp, rest) = fp_at(bytes)?;
         let (len, rest) = u32_at(rest)?;
-        Ok((
-            Row {
-                fp,
-                id: self.id,
-                len,
-            },
-            rest,
-        ))
+        let id = self.id;
+        Ok((Row { fp, id, len }, rest))
     }
 }

@@ -4,10 +4,10 @@ ghost use Rattle.std.specs.Int.{w64};
 ghost use Rattle.vault_types.specs.declared.Recipe.{Recipe as Recipes};
 ghost use Rattle.vault_types.specs.Blobs.{recipe_bytes_1, row_bytes_1, IsRecipe, SpellsRecipe};
 ghost use Rattle.blob_parts.specs.Reading.{ReadsAs};
-ghost use Rattle.recipe_store.specs.Plain.{plain_at};
+ghost use Rattle.recipe_store.specs.Plain.{row_at, plain_at};
 
 use blob_parts::{
-    ReadsField, Unread, body_of, fp_at, has_rules, ids_at, list_at, push_sparse, push_sum,
+    FieldReader, Unread, body_of, fp_at, has_rules, ids_at, list_at, push_sparse, push_sum,
     push_u32, push_u64, tag_at, u32_at, u64_at,
 };
 use std::alloc::{AllocError, Global};
@@ -82,7 +82,7 @@ fn plain_at(alloc: Global, bytes: &[u8], set: Set) -> Result<(Recipe, &[u8]), Un
     let (version, rest) = u32_at(rest)?;
     let (next, rest) = u64_at(rest)?;
     let (length, rest) = u64_at(rest)?;
-    let (rows, rest) = list_at(alloc, 32, &RowField, rest)?;
+    let (rows, rest) = list_at(alloc, 32, &Rows, rest)?;
     let (sparse, rest) = ids_at(alloc, rest)?;
     let recipe = Recipe {
         set,
@@ -96,15 +96,15 @@ fn plain_at(alloc: Global, bytes: &[u8], set: Set) -> Result<(Recipe, &[u8]), Un
     Ok((recipe, rest))
 }
 
-// A row of the first format.
-struct RowField;
+// The rows of a recipe in format 1.
+struct Rows;
 
-impl ReadsField<Row> for RowField {
-    ghost use Rattle.recipe_store.specs.Plain.{row_at};
+impl FieldReader for Rows {
+    type Item = Row;
 
-    ghost field = { λ s bytes. row_at bytes };
+    ghost field = { λ s. row_at };
 
-    fn read<'b>(&self, bytes: &'b [u8]) -> Result<(Row, &'b [u8]), Unread> {
+    fn read<'a>(&self, bytes: &'a [u8]) -> Result<(Row, &'a [u8]), Unread> {
         let (fp, rest) = fp_at(bytes)?;
         let (id, rest) = u64_at(rest)?;
         let (len, rest) = u32_at(rest)?;

@@ -62,15 +62,17 @@ batch_kinds = queue_kinds ++ workers_kind
 of_command : (name : List ℕ) (s : Settings) (c : Command) → IsFine (command_with name s) c
 of_command name s c =
     either (bytes_eq name (codes "backup")) _ _ c
-    (checked_fine backup_kinds (λ s. job_agrees s && sample_agrees s) backup_command s c _ refl (λ each passes. (job_in_range backup_kinds (record { size = refl; container = refl; window = refl; max = refl }) s each (and_parts (job_agrees s) (sample_agrees s) passes).0,
-    record { queue = queue_within backup_kinds s refl each; lanes = count_within backup_kinds s (codes "lanes") 1 refl (omega arith, omega arith) each; workers = record { low = omega arith; high = omega arith } })))
+    (checked_fine backup_kinds (λ s. job_agrees s && sample_agrees s) backup_command s c _ refl (λ each passes. (
+      job_in_range backup_kinds (record { size = refl; container = refl; window = refl; max = refl }) s each (and_parts (job_agrees s) (sample_agrees s) passes).0,
+      record { queue = queue_within backup_kinds s refl each; lanes = count_within backup_kinds s (codes "lanes") 1 refl (omega arith, omega arith) each; workers = record { low = omega arith; high = omega arith } },
+    )))
     (either (bytes_eq name (codes "restore")) _ _ c
     (checked_fine restore_kinds (λ s. has_value s (codes "version") && area_agrees s) restore_command s c _ refl (λ each passes. settings_within restore_kinds s (codes "cache") 1 64 16 refl (omega arith, omega arith) each))
     (either (bytes_eq name (codes "delete")) _ _ c (checked_fine (set_kind ++ version_kind (codes "through")) (λ s. has_value s (codes "through")) delete_command s c _ refl (λ each passes. tt))
     (either (bytes_eq name (codes "show")) _ _ c (checked_fine (set_kind ++ version_kind (codes "version")) (λ s. has_value s (codes "version")) show_command s c _ refl (λ each passes. tt))
     (either (bytes_eq name (codes "batch")) _ _ c (checked_fine batch_kinds always batch_command s c _ refl (λ each passes. threads_within batch_kinds s refl refl refl each))
     (either (bytes_eq name (codes "fill")) _ _ c
-    (checked_fine fill_kinds (λ s. has_value s (codes "seed") && has_value s (codes "versions")) fill_command s c _ refl (λ each passes. let p = settings_within fill_kinds s (codes "versions") 1 64 1 refl (omega arith, omega arith) each in (p.0, (p.1, threads_within fill_kinds s refl refl refl each))))
+    (checked_fine fill_kinds (λ s. has_value s (codes "seed") && has_value s (codes "versions")) fill_command s c _ refl (λ each passes. let p = settings_within fill_kinds s (codes "versions") 1 64 1 refl (omega arith, omega arith) each in (p.0, p.1, threads_within fill_kinds s refl refl refl each)))
     (either (bytes_eq name (codes "migrate")) _ _ c (checked_fine [] always (λ s. command.Migrate) s c _ refl (λ each passes. tt))
     (either (bytes_eq name (codes "scrub")) _ _ c (checked_fine workers_kind always scrub_command s c _ refl (λ each passes. tt))
     (none_fine c))))))))

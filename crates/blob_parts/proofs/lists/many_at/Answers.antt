@@ -3,18 +3,18 @@ use Rattle.blob_parts.specs.Reading.{many_at}
 use Rattle.blob_parts.proofs.Loop.{goes_on, ends, is_done}
 use Rattle.blob_parts.proofs.lists.many_at.Goals as goal
 
-pub returns-in_err-value : goal.returns-in_err-value
-returns-in_err-value g c =
-    let field = g.F.ReadsField.field c.args.fields.now in
-    let p = err_from_is_err_and c.from_residual-in_err-value.result c.from_residual-in_err-value.ensures.1 in
-    rw (p.1, p.2) (ends field c.in_err-value.field-0.0 c.values.values.items c.args.count c.values.counter c.values.rest.now (many_at field c.args.count c.args.bytes.now) c.values-test.true c.in_err-value.ensures c.values.invariant)
+pub returns-in_err-item : goal.returns-in_err-item
+returns-in_err-item g c =
+    let f = g.F.FieldReader.field c.args.fields.now in
+    let p = err_from_is_err_and c.from_residual-in_err-item.result c.from_residual-in_err-item.ensures.1 in
+    rw (p.1, p.2) (ends f c.in_err-item.field-0.0 c.items.items.items c.args.count c.items.counter c.items.rest.now (many_at f c.args.count c.args.bytes.now) c.items-test.true c.in_err-item.ensures c.items.invariant)
 
-pub values-preserved : goal.values-preserved
-values-preserved g c =
-    let field = g.F.ReadsField.field c.args.fields.now in
-    rw c.in_ok-push.ensures.items (goes_on field c.values.values.items c.args.count c.values.counter c.values.rest.now c.in_ok-value.value c.in_ok-value.after.now (many_at field c.args.count c.args.bytes.now) c.values-test.true c.in_ok-value.ensures c.values.invariant)
+pub items-preserved : goal.items-preserved
+items-preserved g c =
+    let f = g.F.FieldReader.field c.args.fields.now in
+    rw c.in_ok-push.ensures.items (goes_on f c.items.items.items c.args.count c.items.counter c.items.rest.now c.in_ok-item.item c.in_ok-item.after.now (many_at f c.args.count c.args.bytes.now) c.items-test.true c.in_ok-item.ensures c.items.invariant)
 
 pub returns : goal.returns
 returns g c =
-    let field = g.F.ReadsField.field c.args.fields.now in
-    is_done field c.values.values.items c.args.count c.values.counter c.values.rest.now (many_at field c.args.count c.args.bytes.now) c.values-test.false c.values.invariant
+    let f = g.F.FieldReader.field c.args.fields.now in
+    is_done f c.items.items.items c.args.count c.items.counter c.items.rest.now (many_at f c.args.count c.args.bytes.now) c.items-test.false c.items.invariant

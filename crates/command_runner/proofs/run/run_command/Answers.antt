@@ -11,17 +11,17 @@ use Rattle.command_runner.proofs.Runs.{batch, one_line}
 use Rattle.command_runner.proofs.run.run_command.Goals as goal
 
 pub run_backup-requires-clause-config : goal.run_backup-requires-clause-config
-run_backup-requires-clause-config g c =
+run_backup-requires-clause-config g c κs within =
     let x = c.in-Ok-Backup-default-default-default-default-None in
     (of_words (map string_bytes c.args.words.now) (command.Backup x.set x.config x.queue x.lanes x.field-0-4) (x.ensures.ok ∙ ap (λ (d : Command). Some d) x.field-0-is)).0
 
 pub run_backup-requires-clause-settings : goal.run_backup-requires-clause-settings
-run_backup-requires-clause-settings g c =
+run_backup-requires-clause-settings g c κs within =
     let x = c.in-Ok-Backup-default-default-default-default-None in
     (of_words (map string_bytes c.args.words.now) (command.Backup x.set x.config x.queue x.lanes x.field-0-4) (x.ensures.ok ∙ ap (λ (d : Command). Some d) x.field-0-is)).1
 
 pub run_batch-requires-clause-settings : goal.run_batch-requires-clause-settings
-run_batch-requires-clause-settings g c =
+run_batch-requires-clause-settings g c κs within =
     let x = c.in-Ok-Batch in
     of_words (map string_bytes c.args.words.now) (command.Batch x.queue x.lanes x.workers) (x.ensures.ok ∙ ap (λ (d : Command). Some d) x.field-0-is)
 

@@ -1,11 +1,11 @@
-// Backups of a source in memory into set 3. Each test ends whatever the schedule.
-ghost use Rattle.std.specs.Prelude.{◌≡◌, ◌≤◌, None};
+// Backups of a source in memory into set 3, two versions of each. Each test ends whatever the schedule.
+ghost use Rattle.std.specs.Prelude.{◌≡◌, ◌≤◌, None, IfOk};
 ghost use Rattle.vault_types.specs.JobRanges.{IsInRange};
 
 use keeper_core::Keeper;
-use pipe_backup::{Course, backup_piped};
+use pipe_backup::{Course, backup_line_piped};
 use pipe_run::StackSizes;
-use serial_backup::backup_plain;
+use serial_backup::backup_line;
 use std::alloc::Global;
 use std::sync::Wait;
 use std::test::Fail;
@@ -14,11 +14,23 @@ use std::thread::Threads;
 use std::time::Clock;
 use vault_ports::{FaultShelf, FaultSource, MemShelf, MemSource};
 use vault_traits::Shelf;
-use vault_types::{Answer, Cutting, Fault, JobConfig, Limits};
+use vault_types::{Answer, Cutting, Fault, JobConfig, Limits, Rewrite};
 
-// A backup of so many bytes, of which a read fails and a call of the shelf, within a limit of chunks.
+// How a stream is cut, and what is written again: nothing; what a segment refers to beside one container; or that and what
+// is in containers of which a version uses less than 60 hundredths.
+#[derive(Clone, Copy)]
+enum Kind {
+    Fixed,
+    Extremum,
+    Capped,
+    Sparse,
+}
+
+// Two versions of so many bytes within a limit of chunks. A read of each fails and a call of the shelf, where its number is
+// not 0.
 #[derive(Clone, Copy)]
 struct Case {
+    kind: Kind,
     len: usize,
     read: u64,
     call: u64,
@@ -26,114 +38,136 @@ struct Case {
 }
 
 const WHOLE: Case = Case {
+    kind: Kind::Fixed,
     len: 300_000,
     read: 0,
     call: 0,
     chunks: 1_000,
 };
 
-fn settings() -> JobConfig
+fn settings(kind: Kind) -> JobConfig
     ensures { IsInRange result }
 {
     let mut config = JobConfig::standard();
     config.cutting = Cutting::Fixed { size: 1_000 };
     config.container = 50_000;
+    config.rewrite = Rewrite::Off;
+    match kind {
+        Kind::Fixed => {}
+        Kind::Extremum => {
+            config.cutting = Cutting::Ae {
+                window: 512,
+                max: 8_192,
+            };
+        }
+        Kind::Capped => {
+            config.rewrite = Rewrite::Cap;
+            config.segment = 40_000;
+            config.cap = 1;
+        }
+        Kind::Sparse => {
+            config.rewrite = Rewrite::Both;
+            config.segment = 40_000;
+            config.cap = 1;
+            config.threshold = 60;
+            config.limit = 100;
+        }
+    }
     config
 }
 
-// Bytes of which the later half is the earlier one once more.
-fn stream(alloc: Global, len: usize) -> Result<Vec<u8>, Fail> {
+// Bytes of which the later half is the earlier one once more. Every third thousand of a later version is new.
+fn stream(alloc: Global, len: usize, version: usize) -> Result<Vec<u8>, Fail> {
     let mut bytes = Vec::new(alloc);
     let mut word = 12_345u32;
-    for _ in 0..len / 2 {
+    for i in 0..len / 2 {
         word = word.wrapping_mul(1_664_525).wrapping_add(1_013_904_223);
-        bytes.push((word >> 24) as u8)?;
+        let byte = (word >> 24) as u8;
+        let is_new = version > 1 && i / 1_000 % 3 == 0;
+        bytes.push(if is_new { !byte } else { byte })?;
     }
     let half = bytes.as_slice().to_vec(alloc)?;
     bytes.extend_from_slice(half.as_slice())?;
     Ok(bytes)
 }
 
-fn source_of(alloc: Global, case: Case) -> Result<FaultSource, Fail> {
-    let inner = MemSource::new(stream(alloc, case.len)?, 30_000);
+fn source_of(alloc: Global, case: Case, version: usize) -> Result<FaultSource, Fail> {
+    let inner = MemSource::new(stream(alloc, case.len, version)?, 30_000);
     Ok(FaultSource::new(inner, [case.read].to_vec(alloc)?))
 }
 
-fn shelf_of(alloc: Global, case: Case) -> Result<FaultShelf, Fail> {
-    Ok(FaultShelf::new(MemShelf::new(alloc), [case.call].to_vec(alloc)?, false))
-}
-
-// What came of a backup: its answer, and the store.
-#[derive(Drop)]
-struct Came {
-    answer: Result<Answer, Fault>,
-    shelf: MemShelf,
-}
-
-fn serial(alloc: Global, case: Case) -> Result<Came, Fail> {
-    if case.chunks < 1 || case.chunks > 4_194_304 {
-        return Err(Fail::from("the limit is in range"));
+fn opened(alloc: Global, case: Case) -> Result<Keeper<FaultShelf>, Fail>
+    ensures { IfOk result (λ keeper. keeper.job ≡ None) }
+{
+    let shelf = FaultShelf::new(MemShelf::new(alloc), [case.call].to_vec(alloc)?, false);
+    match Keeper::start(alloc, shelf) {
+        Ok(keeper) => Ok(keeper),
+        Err(_) => Err(Fail::from("the store opens")),
     }
-    let limits = Limits {
-        chunks: case.chunks,
-        last: 10,
-        script: 0,
-    };
-    let Ok(mut keeper) = Keeper::start(alloc, shelf_of(alloc, case)?) else {
-        return Err(Fail::from("the store opens"));
-    };
-    let mut source = source_of(alloc, case)?;
-    let answer = backup_plain(alloc, &mut keeper, 3, &mut source, &settings(), &limits);
-    Ok(Came {
-        answer,
-        shelf: keeper.close().into_inner(),
-    })
 }
 
-fn piped<R: Threads + Wait + Clock + Copy + Drop + Send>(
-    rt: R,
-    alloc: Global,
-    case: Case,
-    course: Course,
-) -> Result<Came, Fail>
-    requires queue { 1 ≤ course.queue }
-    requires lanes { (1 ≤ course.lanes) × (course.lanes ≤ 8) }
+fn limits_of(case: Case) -> Result<Limits, Fail>
+    ensures { IfOk result (λ limits. (1 ≤ limits.chunks) × (limits.chunks ≤ 4194304) × (limits.last ≤ 4294967294)) }
 {
     if case.chunks < 1 || case.chunks > 4_194_304 {
         return Err(Fail::from("the limit is in range"));
     }
-    let limits = Limits {
+    Ok(Limits {
         chunks: case.chunks,
         last: 10,
         script: 0,
-    };
-    let Ok(mut keeper) = Keeper::start(alloc, shelf_of(alloc, case)?) else {
-        return Err(Fail::from("the store opens"));
-    };
-    let source = source_of(alloc, case)?;
-    let config = settings();
-    let answer = thread::scope(
+    })
+}
+
+// A version on one thread.
+fn serial(
+    alloc: Global,
+    keeper: &mut Keeper<FaultShelf>,
+    case: Case,
+    version: usize,
+) -> Result<Result<Answer, Fault>, Fail>
+    requires { keeper.old.job ≡ None }
+    ensures { keeper.new.job ≡ None }
+{
+    let limits = limits_of(case)?;
+    let mut source = source_of(alloc, case, version)?;
+    Ok(backup_line(alloc, keeper, 3, &mut source, &settings(case.kind), &limits))
+}
+
+// The same in threads.
+fn piped<R: Threads + Wait + Clock + Copy + Drop + Send>(
+    rt: R,
+    alloc: Global,
+    keeper: &mut Keeper<FaultShelf>,
+    case: Case,
+    version: usize,
+    course: Course,
+) -> Result<Result<Answer, Fault>, Fail>
+    requires no_job { keeper.old.job ≡ None }
+    requires queue { 1 ≤ course.queue }
+    requires lanes { (1 ≤ course.lanes) × (course.lanes ≤ 8) }
+    ensures { keeper.new.job ≡ None }
+{
+    let limits = limits_of(case)?;
+    let source = source_of(alloc, case, version)?;
+    let config = settings(case.kind);
+    Ok(thread::scope(
         thread::scope_env(),
         &rt,
         |scope| -> Result<Answer, Fault>
-            requires no_job { keeper.job ≡ None }
+            requires no_job { keeper.old.job ≡ None }
             requires config { IsInRange config }
-            requires low { 1 ≤ limits.chunks }
-            requires high { limits.chunks ≤ 4194304 }
-            requires last { limits.last ≤ 4294967294 }
+            requires limits { (1 ≤ limits.chunks) × (limits.chunks ≤ 4194304) × (limits.last ≤ 4294967294) }
             requires queue { 1 ≤ course.queue }
             requires lanes { (1 ≤ course.lanes) × (course.lanes ≤ 8) }
+            ensures { keeper.new.job ≡ None }
         {
-            let (_, answer) = backup_piped(
-                rt, alloc, scope, &mut keeper, 3, source, &config, &limits, course,
+            let (_, answer) = backup_line_piped(
+                rt, alloc, scope, keeper, 3, source, &config, &limits, course,
             );
             answer
         },
-    );
-    Ok(Came {
-        answer,
-        shelf: keeper.close().into_inner(),
-    })
+    ))
 }
 
 // Whether two stores have the same blobs, of the same names.
@@ -161,7 +195,7 @@ fn course_of(queue: u32, lanes: u32) -> Course
     }
 }
 
-// Whether a backup in threads answers as one on one thread, and leaves the same store.
+// Whether two versions in threads answer as on one thread, and leave the same store.
 fn is_as_one<R: Threads + Wait + Clock + Copy + Drop + Send>(
     rt: R,
     alloc: Global,
@@ -171,13 +205,28 @@ fn is_as_one<R: Threads + Wait + Clock + Copy + Drop + Send>(
     requires queue { 1 ≤ course.queue }
     requires lanes { (1 ≤ course.lanes) × (course.lanes ≤ 8) }
 {
-    let one = serial(alloc, case)?;
-    let came = piped(rt, alloc, case, course)?;
-    Ok(came.answer == one.answer && are_same(alloc, &came.shelf, &one.shelf)?)
+    let mut one = opened(alloc, case)?;
+    let first = serial(alloc, &mut one, case, 1)?;
+    let second = serial(alloc, &mut one, case, 2)?;
+    let mut other = opened(alloc, case)?;
+    let is_first = piped(rt, alloc, &mut other, case, 1, course)? == first;
+    let is_second = piped(rt, alloc, &mut other, case, 2, course)? == second;
+    let is_same = are_same(alloc, &other.close().into_inner(), &one.close().into_inner())?;
+    Ok(is_first && is_second && is_same)
+}
+
+// What a first version in threads answers.
+fn answer_of<R: Threads + Wait + Clock + Copy + Drop + Send>(
+    rt: R,
+    alloc: Global,
+    case: Case,
+) -> Result<Result<Answer, Fault>, Fail> {
+    let mut keeper = opened(alloc, case)?;
+    piped(rt, alloc, &mut keeper, case, 1, course_of(2, 2))
 }
 
 #[test]
-fn a_backup_stores_what_one_thread_stores(rt: HostRuntime) -> Result<(), Fail> {
+fn backups_store_what_one_thread_stores(rt: HostRuntime) -> Result<(), Fail> {
     for lanes in [1, 2, 4] {
         for queue in [1, 64] {
             assert!(rt;
@@ -185,6 +234,16 @@ fn a_backup_stores_what_one_thread_stores(rt: HostRuntime) -> Result<(), Fail> {
                 "{lanes} lanes, {queue} places"
             );
         }
+    }
+    Ok(())
+}
+
+#[test]
+fn backups_of_each_kind_store_what_one_thread_stores(rt: HostRuntime) -> Result<(), Fail> {
+    for kind in [Kind::Extremum, Kind::Capped, Kind::Sparse] {
+        let mut case = WHOLE;
+        case.kind = kind;
+        assert!(rt; is_as_one(rt, rt.alloc(), case, course_of(4, 2))?);
     }
     Ok(())
 }
@@ -202,8 +261,7 @@ fn a_source_that_fails_is_told(rt: HostRuntime) -> Result<(), Fail> {
     for read in [1, 4, 11] {
         let mut case = WHOLE;
         case.read = read;
-        let came = piped(rt, rt.alloc(), case, course_of(2, 2))?;
-        assert!(rt; came.answer == Err(Fault::ReadFault(1)), "read {read}");
+        assert!(rt; answer_of(rt, rt.alloc(), case)? == Err(Fault::ReadFault(1)), "read {read}");
     }
     Ok(())
 }
@@ -213,8 +271,8 @@ fn too_many_chunks_are_told(rt: HostRuntime) -> Result<(), Fail> {
     for chunks in [1, 100, 299] {
         let mut case = WHOLE;
         case.chunks = chunks;
-        let came = piped(rt, rt.alloc(), case, course_of(2, 2))?;
-        assert!(rt; came.answer == Err(Fault::TooMany { limit: chunks }), "limit {chunks}");
+        let told = Err(Fault::TooMany { limit: chunks });
+        assert!(rt; answer_of(rt, rt.alloc(), case)? == told, "limit {chunks}");
     }
     let mut case = WHOLE;
     case.chunks = 300;
@@ -224,7 +282,7 @@ fn too_many_chunks_are_told(rt: HostRuntime) -> Result<(), Fail> {
 
 #[test]
 fn a_shelf_that_fails_is_told_as_on_one_thread(rt: HostRuntime) -> Result<(), Fail> {
-    for call in 2..14u64 {
+    for call in 2..24u64 {
         let mut case = WHOLE;
         case.call = call;
         assert!(rt; is_as_one(rt, rt.alloc(), case, course_of(1, 2))?, "call {call}");

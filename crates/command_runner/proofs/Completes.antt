@@ -1,5 +1,5 @@
 -- A run over a sound shelf where nothing failed has no fault.
-use Rattle.std.proofs.Common.{Bool, ◌≡◌, inl, inr, ⊎_elim, ◌≤◌, ◌<◌, ◌-◌, ◌^◌, ℕ, false, true, List, [], ◌∷◌, ◌++◌, length, Option, Some, None, refl, sym, ap, subst, arith, ◌∙◌}
+use Rattle.std.proofs.Common.{◌≡◌, inl, inr, ⊎_elim, ◌≤◌, ◌<◌, ◌-◌, ◌^◌, ℕ, false, true, List, [], ◌∷◌, ◌++◌, length, Option, Some, None, refl, sym, ap, subst, arith, ◌∙◌}
 use Rattle.std.specs.Prelude.{IsSome, IsSomeAnd, IfSome, Result, Ok, Err}
 use Rattle.vault_types.specs.declared.Limits.{Limits}
 use Rattle.vault_types.specs.declared.Command.{Command}
@@ -119,24 +119,24 @@ module _ (words : List (List ℕ)) (limits : Limits) (before now : World) (answe
   ended None h = absurd h
   ended (Some f) h = (h.none, ap (λ (g : Fault). Some g) (early f h.why))
 
-  ran : (in_order : Bool) (d : Command) (f : Option Fault) → IsBuilt d → Runs in_order Unbuilt d limits before now answers f → f ≡ None
-  ran in_order (command.Backup s config q l None) f built r = printed (report_text answers) before.out now.out f none.out.0 none.out.1 r.runs.printed
-  ran in_order (command.Backup s config q l (Some p)) f built r = absurd built
-  ran in_order (command.Restore s v cache None) f built r = printed (report_text answers) before.report now.report f none.report.0 none.report.1 r.runs.printed
-  ran in_order (command.Restore s v cache (Some a)) f built r = absurd built
-  ran in_order (command.Delete s n) f built r = printed (report_text answers) before.out now.out f none.out.0 none.out.1 r.runs.printed
-  ran in_order (command.Show s v) f built r = printed (report_text answers) before.report now.report f none.report.0 none.report.1 r.runs.printed
-  ran in_order (command.Batch q l w) f built r = printed (report_text answers) before.out now.out f none.out.0 none.out.1 r.runs.printed
-  ran in_order (command.Fill a b d e g) f built r = filled r.runs.left.files f r.runs.printed
+  ran : (d : Command) (f : Option Fault) → IsBuilt d → Runs true Unbuilt d limits before now answers f → f ≡ None
+  ran (command.Backup s config q l None) f built r = printed (report_text answers) before.out now.out f none.out.0 none.out.1 r.runs.printed
+  ran (command.Backup s config q l (Some p)) f built r = absurd built
+  ran (command.Restore s v cache None) f built r = printed (report_text answers) before.report now.report f none.report.0 none.report.1 r.runs.printed
+  ran (command.Restore s v cache (Some a)) f built r = absurd built
+  ran (command.Delete s n) f built r = printed (report_text answers) before.out now.out f none.out.0 none.out.1 r.runs.printed
+  ran (command.Show s v) f built r = printed (report_text answers) before.report now.report f none.report.0 none.report.1 r.runs.printed
+  ran (command.Batch q l w) f built r = printed (report_text answers) before.out now.out f none.out.0 none.out.1 r.runs.printed
+  ran (command.Fill a b d e g) f built r = filled r.runs.left.files f r.runs.printed
     where
       filled : (o : Option Files) (h : Option Fault) → IsSomeAnd o (λ files. IsPrinted (report_text answers ++ outputs_text files (fill_lines b) answers) before.out now.out h) → h ≡ None
       filled None h p = absurd p
       filled (Some files) h p = printed (report_text answers ++ outputs_text files (fill_lines b) answers) before.out now.out h none.out.0 none.out.1 p
-  ran in_order command.Migrate f built r = printed (report_text answers) before.out now.out f none.out.0 none.out.1 r.runs.printed
-  ran in_order (command.Scrub a) f built r = absurd built
+  ran command.Migrate f built r = printed (report_text answers) before.out now.out f none.out.0 none.out.1 r.runs.printed
+  ran (command.Scrub a) f built r = absurd built
 
-pub completes : (in_order : Bool) (words : List (List ℕ)) (limits : Limits) (before now : World) (answers : List Answer) (f : Option Fault) (status : ℕ) → IsRun in_order Unbuilt words limits before now answers f status → IsCompleteRun words limits before now answers f
-completes in_order words limits before now answers f status run c S is built can told begins sound none = ⊎_elim
+pub completes : (words : List (List ℕ)) (limits : Limits) (before now : World) (answers : List Answer) (f : Option Fault) (status : ℕ) → IsRun true Unbuilt words limits before now answers f status → IsCompleteRun words limits before now answers f
+completes words limits before now answers f status run c S is built can told begins sound none = ⊎_elim
     (λ e. inr (ended words limits before now answers c S is can told begins sound none f e))
-    (λ r. inl (ran words limits before now answers c S is can told begins sound none in_order c f built (subst (λ (o : Option Command). IsSomeAnd o (λ d. Runs in_order Unbuilt d limits before now answers f)) is r)))
+    (λ r. inl (ran words limits before now answers c S is can told begins sound none c f built (subst (λ (o : Option Command). IsSomeAnd o (λ d. Runs true Unbuilt d limits before now answers f)) is r)))
     run.course

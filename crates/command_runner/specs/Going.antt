@@ -1,5 +1,5 @@
 -- A run from the opening of the shelf on, and that of a script.
-use Rattle.std.specs.Prelude.{◌≡◌, Bool, ◌⊎◌, ◌+◌, ℕ, List, [], Option, IsSomeAnd, IfSome}
+use Rattle.std.specs.Prelude.{true, ◌≡◌, ◌⊎◌, ◌+◌, ℕ, List, [], Option, IsSomeAnd, IfSome}
 use Rattle.vault_types.specs.declared.Limits.{Limits}
 use Rattle.vault_types.specs.declared.Line.{Line}
 use Rattle.vault_types.specs.declared.Fault.{Fault}
@@ -28,7 +28,7 @@ pub record RefusesScript (limits : Limits) (before now : World) (answers : List 
   pub line : IsTold f before.report now.report
 
 -- a script was read to its end; it ends where the shelf is opened, or its lines run
-pub record RunsScript (in_order : Bool) (limits : Limits) (before now : World) (answers : List Answer)
+pub record RunsScript (limits : Limits) (before now : World) (answers : List Answer)
     (f : Option Fault) : Type 0 where
   pub input : SourceTold
   pub lines : List Line
@@ -36,9 +36,9 @@ pub record RunsScript (in_order : Bool) (limits : Limits) (before now : World) (
   pub read : IfSome input.left (λ rest. rest ≡ [])
   pub within : GivesAtMost (limits.script + 1) before.input input
   pub goes : IsSomeAnd f (EndsAtOpening (with_input before input) now answers)
-      ⊎ RunsOpened (RanLines in_order lines limits) (with_input before input) now answers f
+      ⊎ RunsOpened (RanLines true lines limits) (with_input before input) now answers f
 
-pub record BatchGoes (in_order : Bool) (limits : Limits) (before now : World) (answers : List Answer) (f : Option Fault)
+pub record BatchGoes (limits : Limits) (before now : World) (answers : List Answer) (f : Option Fault)
     (status : ℕ) : Type 0 where
-  pub course : IsSomeAnd f (RefusesScript limits before now answers) ⊎ RunsScript in_order limits before now answers f
+  pub course : IsSomeAnd f (RefusesScript limits before now answers) ⊎ RunsScript limits before now answers f
   pub status_is : status ≡ status_after answers f

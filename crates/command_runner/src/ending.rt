@@ -6,13 +6,11 @@ ghost use Rattle.store_model.specs.Leaves.{Begins};
 ghost use Rattle.store_model.specs.Steps.{answer_of};
 ghost use Rattle.store_model.specs.Strays.{StraysOf};
 ghost use Rattle.store_model.specs.Early.{HasOpened, IsSameBut, IsStartFault};
-ghost use Rattle.store_model.specs.Ranges.{AreThreadSettings};
 ghost use Rattle.store_model.specs.World as spec;
 ghost use Rattle.store_model.specs.World.{IsPrinted, IsTold, report_text};
 
 use crate::store::ShelfStore;
 use report_printer::{print_all, status_after, tell};
-use script_runner::ThreadSettings;
 use std::alloc::Global;
 use vault_traits::{Shelf, Sink, Source};
 use vault_types::{Answer, Fault};
@@ -138,11 +136,8 @@ pub(crate) fn one_answer(room: Vec<Answer>, answer: Answer) -> Vec<Answer>
 // Opens the store, and takes the room for one answer.
 pub(crate) fn open_for_one<S: Shelf, K: ShelfStore<S>>(
     alloc: Global,
-    host: K::Host,
-    settings: ThreadSettings,
     shelf: S,
 ) -> Result<(K, Vec<Answer>), (Fault, S)>
-    requires { AreThreadSettings settings.queue settings.lanes settings.workers }
     ensures opened { IfOk result (λ k. HasOpened (S.told shelf)) }
     ensures same { IfOk result (λ k. IsSameBut (S.told shelf) (K.shelf k.0)) }
     ensures keeps { IfOk result (λ k. (T : State) → Begins (S.told shelf) T → K.keeps k.0 T None) }
@@ -152,7 +147,7 @@ pub(crate) fn open_for_one<S: Shelf, K: ShelfStore<S>>(
     ensures err { IfErr result (λ e. IsSameBut (S.told shelf) (S.told e.1)
         × IsStartFault (S.told shelf) (S.told e.1) e.0) }
 {
-    let store = K::start(alloc, host, settings, shelf)?;
+    let store = K::start(alloc, shelf)?;
     match Vec::with_capacity(alloc, 1) {
         Ok(answers) => Ok((store, answers)),
         Err(_) => Err((Fault::Memory, store.close())),

@@ -1,5 +1,5 @@
 // The script of `fill`, over places of its own.
-ghost use Rattle.std.specs.Prelude.{◌≡◌, ◌≤◌, IsSome, IfOk, IfErr};
+ghost use Rattle.std.specs.Prelude.{true, ◌≡◌, ◌≤◌, IsSome, IfOk, IfErr};
 ghost use Rattle.std.specs.List.{AllByRecursion};
 ghost use Rattle.vault_types.specs.Generator.{fill_lines};
 ghost use Rattle.vault_types.specs.Script.{Sources};
@@ -12,7 +12,7 @@ ghost use Rattle.store_model.specs.Script.{RunsLines};
 ghost use Rattle.store_model.specs.Strays.{StraysOf};
 ghost use Rattle.store_model.specs.Early.{HasOpened, IsSameBut, IsStartFault};
 ghost use Rattle.store_model.specs.Filling.{AreGenerated, RunsFill};
-ghost use Rattle.store_model.specs.Ranges.{AreLimits, AreThreadSettings, IsLineInRange};
+ghost use Rattle.store_model.specs.Ranges.{AreLimits, IsLineInRange};
 ghost use Rattle.workload.specs.Places.{told_of};
 ghost use Rattle.store_model.specs.World.{world};
 ghost use Rattle.command_runner.specs.Going.{GoesOn};
@@ -20,7 +20,7 @@ ghost use Rattle.command_runner.specs.Going.{GoesOn};
 use crate::ending::{Ended, ended_early, ended_with};
 use crate::outputs::print_filled;
 use crate::store::ShelfStore;
-use script_runner::{Done, ThreadSettings};
+use script_runner::{Done, script_plain};
 use script_words::fill_script;
 use std::alloc::Global;
 use vault_traits::{Places, Shelf, Sink, Source};
@@ -45,24 +45,18 @@ fn script_and_places(
 // Opens the store and runs the lines over the places.
 fn run_over<S: Shelf, K: ShelfStore<S>, Q: Places>(
     alloc: Global,
-    host: K::Host,
-    settings: ThreadSettings,
     lines: &[Line],
     limits: &Limits,
     shelf: S,
     places: &mut Q,
 ) -> Result<(Vec<Answer>, S), (Fault, S)>
-where
-    Q::Reader: Drop,
-    Q::Writer: Drop,
-    requires settings { AreThreadSettings settings.queue settings.lanes settings.workers }
     requires apart { AreApartLines lines.now }
     requires ranges { AllByRecursion IsLineInRange lines.now }
     requires limits { AreLimits limits.now }
     ensures opened { IfOk result (λ done. HasOpened (S.told shelf)) }
     ensures runs { IfOk result
         (λ done.
-        RunsLines K.in_order (Begins (S.told shelf)) (StraysOf (S.told shelf)) limits.now lines.now done.0.items
+        RunsLines true (Begins (S.told shelf)) (StraysOf (S.told shelf)) limits.now lines.now done.0.items
         (S.told shelf) (S.told done.1) (Q.told places.old) (Q.told places.new)) }
     ensures room { IfOk result (λ done. (T : State) (sources : Sources) → Begins (S.told shelf) T
         → AreFedBy (Q.told places.old).files sources lines.now → IsSome (Q.told places.old).files
@@ -70,11 +64,11 @@ where
     ensures err { IfErr result (λ e. IsSameBut (S.told shelf) (S.told e.1)
         × IsStartFault (S.told shelf) (S.told e.1) e.0) }
 {
-    let store = match K::start(alloc, host, settings, shelf) {
+    let store = match K::start(alloc, shelf) {
         Ok(store) => store,
         Err(refused) => return Err(refused),
     };
-    match store.run_script(alloc, lines, places, limits) {
+    match script_plain(alloc, store, lines, places, limits) {
         Err((_, store)) => Err((Fault::Memory, store.close())),
         Ok(done) => {
             let Done { store, answers } = done;
@@ -86,8 +80,6 @@ where
 // Runs the script of `fill`. The report and the sums of what was restored are on `out`.
 pub(crate) fn run_fill<S: Shelf, K: ShelfStore<S>, I: Source, O: Sink, R: Sink>(
     alloc: Global,
-    host: K::Host,
-    settings: ThreadSettings,
     seed: u64,
     versions: u32,
     limits: &Limits,
@@ -96,10 +88,9 @@ pub(crate) fn run_fill<S: Shelf, K: ShelfStore<S>, I: Source, O: Sink, R: Sink>(
     out: O,
     report: &mut R,
 ) -> Ended<S, I, O>
-    requires settings { AreThreadSettings settings.queue settings.lanes settings.workers }
     requires few { versions ≤ 64 }
     requires limits { AreLimits limits.now }
-    ensures { (places : PlacesTold) → GoesOn (RunsFill K.in_order seed versions limits.now)
+    ensures { (places : PlacesTold) → GoesOn (RunsFill true seed versions limits.now)
         (world (S.told shelf) places (I.told input) (O.told out) (R.told report.old))
         (world (S.told result.shelf) places (I.told result.input) (O.told result.out) (R.told report.new))
         result.answers.items result.fault result.status }
@@ -111,7 +102,7 @@ pub(crate) fn run_fill<S: Shelf, K: ShelfStore<S>, I: Source, O: Sink, R: Sink>(
     let (mut made, mut out) = (made, out);
     let script = lines.as_slice();
     let (answers, shelf) = match run_over::<S, K, FillPlaces>(
-        alloc, host, settings, script, limits, shelf, &mut made,
+        alloc, script, limits, shelf, &mut made,
     ) {
         Ok(done) => done,
         Err((fault, shelf)) => return ended_early(alloc, fault, shelf, input, out, report),

@@ -6,14 +6,12 @@ ghost use Rattle.command_runner.specs.Going.{GoesOn};
 
 use crate::ending::{Ended, answer_from, ended_early, ended_on_out, one_answer, open_for_one};
 use crate::store::ShelfStore;
-use script_runner::ThreadSettings;
 use std::alloc::Global;
 use vault_traits::{Shelf, Sink, Source};
 
 // Puts recipes again; the report is on `out`.
 pub(crate) fn run_migrate<S: Shelf, K: ShelfStore<S>, I: Source, O: Sink, R: Sink>(
     alloc: Global,
-    host: K::Host,
     shelf: S,
     input: I,
     out: O,
@@ -24,7 +22,7 @@ pub(crate) fn run_migrate<S: Shelf, K: ShelfStore<S>, I: Source, O: Sink, R: Sin
         (world (S.told result.shelf) places (I.told result.input) (O.told result.out) (R.told report.new))
         result.answers.items result.fault result.status }
 {
-    let (store, room) = match open_for_one::<S, K>(alloc, host, ThreadSettings::least(), shelf) {
+    let (store, room) = match open_for_one::<S, K>(alloc, shelf) {
         Ok(opened) => opened,
         Err((fault, shelf)) => return ended_early(alloc, fault, shelf, input, out, report),
     };

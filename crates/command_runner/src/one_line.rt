@@ -4,7 +4,7 @@ ghost use Rattle.vault_types.specs.JobRanges.{IsInRange};
 ghost use Rattle.vault_types.specs.declared.Limits.{Limits as LimitsOf};
 ghost use Rattle.vault_traits.specs.Told.{PlacesTold};
 ghost use Rattle.store_model.specs.Courses.{RunsBackup, RunsRestore, RunsDelete};
-ghost use Rattle.store_model.specs.Ranges.{AreLimits, AreThreadSettings};
+ghost use Rattle.store_model.specs.Ranges.{AreLimits};
 ghost use Rattle.store_model.specs.World.{world};
 ghost use Rattle.command_runner.specs.Going.{GoesOn};
 
@@ -12,16 +12,13 @@ use crate::ending::{
     Ended, answer_from, ended_early, ended_on_out, ended_on_report, one_answer, open_for_one,
 };
 use crate::store::ShelfStore;
-use script_runner::ThreadSettings;
 use std::alloc::Global;
 use vault_traits::{Shelf, Sink, Source};
 use vault_types::{JobConfig, Limits, Set, Version};
 
 // Backs the input up; the report is on `out`.
-pub(crate) fn run_backup<S: Shelf, K: ShelfStore<S>, I: Source + Drop + Send, O: Sink, R: Sink>(
+pub(crate) fn run_backup<S: Shelf, K: ShelfStore<S>, I: Source, O: Sink, R: Sink>(
     alloc: Global,
-    host: K::Host,
-    settings: ThreadSettings,
     set: Set,
     config: &JobConfig,
     limits: &Limits,
@@ -30,7 +27,6 @@ pub(crate) fn run_backup<S: Shelf, K: ShelfStore<S>, I: Source + Drop + Send, O:
     out: O,
     report: &mut R,
 ) -> Ended<S, I, O>
-    requires settings { AreThreadSettings settings.queue settings.lanes settings.workers }
     requires config { IsInRange config.now }
     requires limits { AreLimits limits.now }
     ensures { (places : PlacesTold) → GoesOn (RunsBackup set config.now limits.now)
@@ -38,19 +34,18 @@ pub(crate) fn run_backup<S: Shelf, K: ShelfStore<S>, I: Source + Drop + Send, O:
         (world (S.told result.shelf) places (I.told result.input) (O.told result.out) (R.told report.new))
         result.answers.items result.fault result.status }
 {
-    let (store, room) = match open_for_one::<S, K>(alloc, host, settings, shelf) {
+    let (store, room) = match open_for_one::<S, K>(alloc, shelf) {
         Ok(opened) => opened,
         Err((fault, shelf)) => return ended_early(alloc, fault, shelf, input, out, report),
     };
-    let mut store = store;
-    let (input, result) = store.back_up(alloc, set, input, config, limits);
+    let (mut store, mut input) = (store, input);
+    let result = store.back_up(alloc, set, &mut input, config, limits);
     ended_on_out(store, one_answer(room, answer_from(result)), input, out)
 }
 
 // Restores a version to `out`; the report is on `report`.
 pub(crate) fn run_restore<S: Shelf, K: ShelfStore<S>, I: Source, O: Sink, R: Sink>(
     alloc: Global,
-    host: K::Host,
     set: Set,
     version: Version,
     cache: u32,
@@ -66,7 +61,7 @@ pub(crate) fn run_restore<S: Shelf, K: ShelfStore<S>, I: Source, O: Sink, R: Sin
         (world (S.told result.shelf) places (I.told result.input) (O.told result.out) (R.told report.new))
         result.answers.items result.fault result.status }
 {
-    let (store, room) = match open_for_one::<S, K>(alloc, host, ThreadSettings::least(), shelf) {
+    let (store, room) = match open_for_one::<S, K>(alloc, shelf) {
         Ok(opened) => opened,
         Err((fault, shelf)) => return ended_early(alloc, fault, shelf, input, out, report),
     };
@@ -84,7 +79,6 @@ pub(crate) fn run_restore<S: Shelf, K: ShelfStore<S>, I: Source, O: Sink, R: Sin
 // Deletes versions; the report is on `out`.
 pub(crate) fn run_delete<S: Shelf, K: ShelfStore<S>, I: Source, O: Sink, R: Sink>(
     alloc: Global,
-    host: K::Host,
     set: Set,
     through: Version,
     shelf: S,
@@ -97,7 +91,7 @@ pub(crate) fn run_delete<S: Shelf, K: ShelfStore<S>, I: Source, O: Sink, R: Sink
         (world (S.told result.shelf) places (I.told result.input) (O.told result.out) (R.told report.new))
         result.answers.items result.fault result.status }
 {
-    let (store, room) = match open_for_one::<S, K>(alloc, host, ThreadSettings::least(), shelf) {
+    let (store, room) = match open_for_one::<S, K>(alloc, shelf) {
         Ok(opened) => opened,
         Err((fault, shelf)) => return ended_early(alloc, fault, shelf, input, out, report),
     };

@@ -1,7 +1,7 @@
 // A run of the program's words.
-ghost use Rattle.std.specs.Prelude.{map, string_bytes};
+ghost use Rattle.std.specs.Prelude.{true, map, string_bytes};
 ghost use Rattle.store_model.specs.Run.{IsRun};
-ghost use Rattle.store_model.specs.Ranges.{AreLimits, AreThreadSettings};
+ghost use Rattle.store_model.specs.Ranges.{AreLimits};
 ghost use Rattle.store_model.specs.World.{world};
 ghost use Rattle.command_runner.specs.Unbuilt.{Unbuilt};
 ghost use Rattle.command_runner.specs.Going.{BatchGoes};
@@ -15,16 +15,14 @@ use crate::scripts::run_lines;
 use crate::showing::run_show;
 use crate::store::ShelfStore;
 use script_input::read_lines;
-use script_runner::ThreadSettings;
 use script_words::read_words;
 use std::alloc::Global;
 use vault_traits::{Places, Shelf, Sink, Source};
 use vault_types::{Command, Fault, Limits};
 
 // Runs the command that the words are.
-fn run_command<S: Shelf, K: ShelfStore<S>, P: Places, I: Source + Drop + Send, O: Sink, R: Sink>(
+fn run_command<S: Shelf, K: ShelfStore<S>, P: Places, I: Source, O: Sink, R: Sink>(
     alloc: Global,
-    host: K::Host,
     words: &[String],
     limits: &Limits,
     shelf: S,
@@ -33,11 +31,8 @@ fn run_command<S: Shelf, K: ShelfStore<S>, P: Places, I: Source + Drop + Send, O
     out: O,
     report: &mut R,
 ) -> Ended<S, I, O>
-where
-    P::Reader: Drop,
-    P::Writer: Drop,
     requires { AreLimits limits.now }
-    ensures { IsRun K.in_order Unbuilt (map string_bytes words.now) limits.now
+    ensures { IsRun true Unbuilt (map string_bytes words.now) limits.now
         (world (S.told shelf) (P.told places.old) (I.told input) (O.told out) (R.told report.old))
         (world (S.told result.shelf) (P.told places.new)
         (I.told result.input) (O.told result.out) (R.told report.new))
@@ -49,20 +44,10 @@ where
             Command::Backup {
                 set,
                 config,
-                queue,
-                lanes,
                 sample: None,
+                ..
             },
-        ) => {
-            let settings = ThreadSettings {
-                queue,
-                lanes,
-                workers: 1,
-            };
-            run_backup::<S, K, I, O, R>(
-                alloc, host, settings, set, &config, limits, shelf, input, out, report,
-            )
-        }
+        ) => run_backup::<S, K, I, O, R>(alloc, set, &config, limits, shelf, input, out, report),
         Ok(
             Command::Restore {
                 set,
@@ -70,31 +55,16 @@ where
                 cache,
                 area: None,
             },
-        ) => run_restore::<S, K, I, O, R>(
-            alloc, host, set, version, cache, shelf, input, out, report,
-        ),
+        ) => run_restore::<S, K, I, O, R>(alloc, set, version, cache, shelf, input, out, report),
         Ok(Command::Delete { set, through }) => run_delete::<S, K, I, O, R>(
-            alloc, host, set, through, shelf, input, out, report,
+            alloc, set, through, shelf, input, out, report,
         ),
         Ok(Command::Show { set, version }) => run_show::<S, K, I, O, R>(
-            alloc, host, set, version, shelf, input, out, report,
+            alloc, set, version, shelf, input, out, report,
         ),
-        Ok(
-            Command::Batch {
-                queue,
-                lanes,
-                workers,
-            },
-        ) => {
-            let settings = ThreadSettings {
-                queue,
-                lanes,
-                workers,
-            };
-            run_batch::<S, K, P, I, O, R>(
-                alloc, host, settings, limits, shelf, places, input, out, report,
-            )
-        }
+        Ok(Command::Batch { .. }) => run_batch::<S, K, P, I, O, R>(
+            alloc, limits, shelf, places, input, out, report,
+        ),
         Ok(
             Command::Backup {
                 sample: Some(_),
@@ -109,27 +79,10 @@ where
             out,
             report,
         ),
-        Ok(
-            Command::Fill {
-                seed,
-                versions,
-                queue,
-                lanes,
-                workers,
-            },
-        ) => {
-            let settings = ThreadSettings {
-                queue,
-                lanes,
-                workers,
-            };
-            run_fill::<S, K, I, O, R>(
-                alloc, host, settings, seed, versions, limits, shelf, input, out, report,
-            )
-        }
-        Ok(Command::Migrate) => run_migrate::<S, K, I, O, R>(
-            alloc, host, shelf, input, out, report,
+        Ok(Command::Fill { seed, versions, .. }) => run_fill::<S, K, I, O, R>(
+            alloc, seed, versions, limits, shelf, input, out, report,
         ),
+        Ok(Command::Migrate) => run_migrate::<S, K, I, O, R>(alloc, shelf, input, out, report),
         Ok(Command::Scrub { .. }) => ended_early(alloc, Fault::Usage, shelf, input, out, report),
     }
 }
@@ -137,8 +90,6 @@ where
 // Reads the script from the input, and runs its lines.
 fn run_batch<S: Shelf, K: ShelfStore<S>, P: Places, I: Source, O: Sink, R: Sink>(
     alloc: Global,
-    host: K::Host,
-    settings: ThreadSettings,
     limits: &Limits,
     shelf: S,
     places: &mut P,
@@ -146,12 +97,8 @@ fn run_batch<S: Shelf, K: ShelfStore<S>, P: Places, I: Source, O: Sink, R: Sink>
     out: O,
     report: &mut R,
 ) -> Ended<S, I, O>
-where
-    P::Reader: Drop,
-    P::Writer: Drop,
-    requires limits { AreLimits limits.now }
-    requires settings { AreThreadSettings settings.queue settings.lanes settings.workers }
-    ensures { BatchGoes K.in_order limits.now
+    requires { AreLimits limits.now }
+    ensures { BatchGoes limits.now
         (world (S.told shelf) (P.told places.old) (I.told input) (O.told out) (R.told report.old))
         (world (S.told result.shelf) (P.told places.new)
         (I.told result.input) (O.told result.out) (R.told report.new))
@@ -162,8 +109,6 @@ where
         Err(fault) => ended_early(alloc, fault, shelf, input, out, report),
         Ok(lines) => run_lines::<S, K, P, I, O, R>(
             alloc,
-            host,
-            settings,
             lines.as_slice(),
             limits,
             shelf,
@@ -179,9 +124,8 @@ where
 /// words are no command, or one that is not built yet; the faults of reading a script; and those of opening the shelf.
 /// A line that is refused has its fault as its answer. The report is on `out`, and on `report` where `out` gets a version;
 /// one that could not be written is a `WriteFault`, and what was done stands.
-pub fn run_words<S: Shelf, K: ShelfStore<S>, P: Places, I: Source + Drop + Send, O: Sink, R: Sink>(
+pub fn run_words<S: Shelf, K: ShelfStore<S>, P: Places, I: Source, O: Sink, R: Sink>(
     alloc: Global,
-    host: K::Host,
     words: &[String],
     limits: &Limits,
     shelf: S,
@@ -190,11 +134,8 @@ pub fn run_words<S: Shelf, K: ShelfStore<S>, P: Places, I: Source + Drop + Send,
     out: O,
     report: &mut R,
 ) -> Ended<S, I, O>
-where
-    P::Reader: Drop,
-    P::Writer: Drop,
     requires { AreLimits limits.now }
-    ensures run { IsRun K.in_order Unbuilt (map string_bytes words.now) limits.now
+    ensures run { IsRun true Unbuilt (map string_bytes words.now) limits.now
         (world (S.told shelf) (P.told places.old) (I.told input) (O.told out) (R.told report.old))
         (world (S.told result.shelf) (P.told places.new)
         (I.told result.input) (O.told result.out) (R.told report.new))
@@ -205,7 +146,5 @@ where
         (I.told result.input) (O.told result.out) (R.told report.new))
         result.answers.items result.fault }
 {
-    run_command::<S, K, P, I, O, R>(
-        alloc, host, words, limits, shelf, places, input, out, report,
-    )
+    run_command::<S, K, P, I, O, R>(alloc, words, limits, shelf, places, input, out, report)
 }

@@ -12,7 +12,6 @@ ghost use Rattle.command_runner.specs.Showing.{IsWrittenRecipe};
 use crate::ending::{Ended, ended_early, ended_on_report, one_answer, open_for_one};
 use crate::store::ShelfStore;
 use report_printer::write_all;
-use script_runner::ThreadSettings;
 use script_words::show_text;
 use std::alloc::Global;
 use vault_traits::{Failed, Shelf, Sink, Source};
@@ -68,7 +67,6 @@ fn show<S: Shelf, K: ShelfStore<S>, O: Sink>(
 // Shows the recipe of a version on `out`; the report is on `report`.
 pub(crate) fn run_show<S: Shelf, K: ShelfStore<S>, I: Source, O: Sink, R: Sink>(
     alloc: Global,
-    host: K::Host,
     set: Set,
     version: Version,
     shelf: S,
@@ -81,7 +79,7 @@ pub(crate) fn run_show<S: Shelf, K: ShelfStore<S>, I: Source, O: Sink, R: Sink>(
         (world (S.told result.shelf) places (I.told result.input) (O.told result.out) (R.told report.new))
         result.answers.items result.fault result.status }
 {
-    let (store, room) = match open_for_one::<S, K>(alloc, host, ThreadSettings::least(), shelf) {
+    let (store, room) = match open_for_one::<S, K>(alloc, shelf) {
         Ok(opened) => opened,
         Err((fault, shelf)) => return ended_early(alloc, fault, shelf, input, out, report),
     };

@@ -6,27 +6,17 @@ ghost use Rattle.store_model.specs.Leaves.{Begins};
 ghost use Rattle.store_model.specs.Strays.{StraysOf};
 ghost use Rattle.store_model.specs.Early.{HasOpened, IsSameBut, IsStartFault};
 ghost use Rattle.store_model.specs.Migrating.{MigratesStore};
-ghost use Rattle.store_model.specs.Ranges.{AreThreadSettings};
 ghost use Rattle.command_runner.specs.Showing.{ReadsRecipe};
 
-use script_runner::{ScriptStore, ThreadSettings};
+use script_runner::LineStore;
 use std::alloc::Global;
 use vault_traits::Shelf;
 use vault_types::{Answer, Fault, Recipe, Set, Version};
 
 /// A store that opens on a shelf, and gives it back.
-pub trait ShelfStore<S: Shelf>: ScriptStore {
-    /// What of the host the store works with: nothing on one thread, else what starts threads.
-    type Host: Copy + Drop;
-
+pub trait ShelfStore<S: Shelf>: LineStore {
     /// Opens the store. It writes nothing; `StoreFault`, `Damaged` with the first damage in the order of opening, `Memory`.
-    fn start(
-        alloc: Global,
-        host: Self::Host,
-        settings: ThreadSettings,
-        shelf: S,
-    ) -> Result<Self, (Fault, S)>
-        requires { AreThreadSettings settings.queue settings.lanes settings.workers }
+    fn start(alloc: Global, shelf: S) -> Result<Self, (Fault, S)>
         ensures opened { IfOk result (λ k. HasOpened (S.told shelf)) }
         ensures same { IfOk result (λ k. IsSameBut (S.told shelf) (Self.shelf k)) }
         ensures keeps { IfOk result (λ k. (T : State) → Begins (S.told shelf) T → Self.keeps k T None) }

@@ -10,7 +10,7 @@ ghost use Rattle.command_runner.specs.Unbuilt.{Unbuilt};
 
 pub use command_runner::Ended;
 use command_runner::run_words;
-use keeper_store::{KeeperStore, OneThread};
+use keeper_store::KeeperStore;
 use std::alloc::Global;
 use vault_traits::{Places, Shelf, Sink, Source};
 use vault_types::Limits;
@@ -21,7 +21,7 @@ use vault_types::Limits;
 /// `StoreFault`, `Damaged` and `Memory` of the opening, which writes nothing. A line that is refused has its fault as its
 /// answer, and leaves the versions of the store. The report is on `out`, and on `report` where `out` gets a version; one
 /// that could not be written is a `WriteFault`, and what was done stands.
-pub fn run_plain<S: Shelf, P: Places, I: Source + Drop + Send, O: Sink + Send, R: Sink>(
+pub fn run_plain<S: Shelf, P: Places, I: Source + Send, O: Sink + Send, R: Sink>(
     alloc: Global,
     words: &[String],
     limits: &Limits,
@@ -31,9 +31,6 @@ pub fn run_plain<S: Shelf, P: Places, I: Source + Drop + Send, O: Sink + Send, R
     out: O,
     report: &mut R,
 ) -> Ended<S, I, O>
-where
-    P::Reader: Drop,
-    P::Writer: Drop,
     requires chunks { 1 ≤ limits.now.chunks }
     requires chunks_high { limits.now.chunks ≤ 4194304 }
     requires last { 1 ≤ limits.now.last }
@@ -51,7 +48,7 @@ where
         (I.told result.input) (O.told result.out) (R.told report.new))
         result.answers.items result.fault }
 {
-    run_words::<S, KeeperStore<S, OneThread>, P, I, O, R>(
-        alloc, OneThread, words, limits, shelf, places, input, out, report,
+    run_words::<S, KeeperStore<S>, P, I, O, R>(
+        alloc, words, limits, shelf, places, input, out, report,
     )
 }

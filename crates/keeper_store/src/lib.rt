@@ -1,35 +1,30 @@
 //! The store that the program's words run on: a keeper with no job and no pin, whose calls run lines.
 #![tactic(auto)]
 
-mod way;
-
-pub use crate::way::{BackupWay, OneThread};
 use command_runner::ShelfStore;
 use keeper_core::Keeper;
 use script_laws::StateKeeper;
-use script_runner::{Done, LineStore, ScriptStore, ThreadSettings, script_plain};
+use script_runner::LineStore;
+use serial_backup::backup_line;
 use serial_delete::delete_plain;
 use serial_migrate::migrate_plain;
 use serial_restore::restore_plain;
 use std::alloc::Global;
 use std::marker::Model;
-use vault_traits::{Places, Shelf, Sink, Source};
-use vault_types::{Answer, Fault, Id, JobConfig, Limits, Line, Memory, Recipe, Set, Version};
+use vault_traits::{Shelf, Sink, Source};
+use vault_types::{Answer, Fault, Id, JobConfig, Limits, Recipe, Set, Version};
 
-/// A keeper between two lines, and how its backups run.
+/// A keeper between two lines.
 #[derive(Drop)]
-pub struct KeeperStore<S: Shelf, W: BackupWay> {
+pub struct KeeperStore<S: Shelf> {
     keeper: Keeper<S>,
-    way: W,
-    settings: ThreadSettings,
 }
 
-impl<S: Shelf, W: BackupWay> Model for KeeperStore<S, W> {
+impl<S: Shelf> Model for KeeperStore<S> {
     ghost use Rattle.std.specs.Coded.{codes};
     ghost use Rattle.std.specs.Prelude.{◌≡◌, [], None};
     ghost use Rattle.vault_traits.specs.Codes.{coded_blobs, coded_history};
     ghost use Rattle.keeper_catalog.specs.View.{View};
-    ghost use Rattle.store_model.specs.Ranges.{AreThreadSettings};
 
     ghost Value = { View };
 
@@ -37,11 +32,10 @@ impl<S: Shelf, W: BackupWay> Model for KeeperStore<S, W> {
 
     ghost view = { λ k. k.keeper };
 
-    ghost invariant = { λ k. (k.keeper.job ≡ None) × (k.keeper.pins ≡ [])
-        × AreThreadSettings k.settings.queue k.settings.lanes k.settings.workers };
+    ghost invariant = { λ k. (k.keeper.job ≡ None) × (k.keeper.pins ≡ []) };
 }
 
-impl<S: Shelf, W: BackupWay> StateKeeper for KeeperStore<S, W> {
+impl<S: Shelf> StateKeeper for KeeperStore<S> {
     ghost use Rattle.keeper_core.specs.Keeping.{IsStateOf, IsKnownStray};
     ghost use Rattle.keeper_store.specs.Kept.{kept_of, known_of};
 
@@ -56,7 +50,7 @@ impl<S: Shelf, W: BackupWay> StateKeeper for KeeperStore<S, W> {
     ghost strays_known = { λ k S other keep n stray. known_of k S other keep n stray };
 }
 
-impl<S: Shelf, W: BackupWay> LineStore for KeeperStore<S, W> {
+impl<S: Shelf> LineStore for KeeperStore<S> {
     fn full(&self, set: Set, limits: &Limits) -> bool {
         self.keeper.full(set, limits)
     }
@@ -77,23 +71,15 @@ impl<S: Shelf, W: BackupWay> LineStore for KeeperStore<S, W> {
         self.keeper.next_id()
     }
 
-    fn back_up<I: Source + Drop + Send>(
+    fn back_up<I: Source>(
         &mut self,
         alloc: Global,
         set: Set,
-        source: I,
+        source: &mut I,
         config: &JobConfig,
         limits: &Limits,
-    ) -> (I, Result<Answer, Fault>) {
-        self.way.back_up(
-            alloc,
-            self.settings,
-            &mut self.keeper,
-            set,
-            source,
-            config,
-            limits,
-        )
+    ) -> Result<Answer, Fault> {
+        backup_line(alloc, &mut self.keeper, set, source, config, limits)
     }
 
     fn restore<O: Sink>(
@@ -112,41 +98,10 @@ impl<S: Shelf, W: BackupWay> LineStore for KeeperStore<S, W> {
     }
 }
 
-impl<S: Shelf, W: BackupWay> ScriptStore for KeeperStore<S, W> {
-    ghost use Rattle.std.specs.Prelude.{true};
-
-    ghost in_order = { true };
-
-    fn run_script<P: Places>(
-        self,
-        alloc: Global,
-        lines: &[Line],
-        places: &mut P,
-        limits: &Limits,
-    ) -> Result<Done<Self>, (Memory, Self)>
-    where
-        P::Reader: Drop,
-        P::Writer: Drop,
-    {
-        script_plain(alloc, self, lines, places, limits)
-    }
-}
-
-impl<S: Shelf, W: BackupWay> ShelfStore<S> for KeeperStore<S, W> {
-    type Host = W;
-
-    fn start(
-        alloc: Global,
-        host: W,
-        settings: ThreadSettings,
-        shelf: S,
-    ) -> Result<Self, (Fault, S)> {
+impl<S: Shelf> ShelfStore<S> for KeeperStore<S> {
+    fn start(alloc: Global, shelf: S) -> Result<Self, (Fault, S)> {
         match Keeper::start(alloc, shelf) {
-            Ok(keeper) => Ok(KeeperStore {
-                keeper,
-                way: host,
-                settings,
-            }),
+            Ok(keeper) => Ok(KeeperStore { keeper }),
             Err(back) => Err(back),
         }
     }

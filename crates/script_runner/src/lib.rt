@@ -5,4 +5,4 @@ mod run;
 mod store;
 
 pub use run::{Done, script_plain};
-pub use store::{LineStore, ScriptStore, ThreadSettings};
+pub use store::LineStore;

@@ -55,8 +55,6 @@ fn backup_line<K: LineStore, P: Places>(
     places: &mut P,
     limits: &Limits,
 ) -> Answer
-where
-    P::Reader: Drop,
     requires config { IsInRange config.now }
     requires limits { AreLimits limits.now }
     ensures { StepsLine K.shelf K.keeps K.strays limits.now
@@ -74,8 +72,8 @@ where
     match places.open_source(alloc, name.as_str()) {
         Err(Refused::Failed) => Answer::Refused(Fault::PlaceFault(places.faults())),
         Err(Refused::Memory) => Answer::Refused(Fault::Memory),
-        Ok(source) => {
-            let (source, result) = store.back_up(alloc, set, source, config, limits);
+        Ok(mut source) => {
+            let result = store.back_up(alloc, set, &mut source, config, limits);
             places.close_source(source);
             match result {
                 Ok(answer) => answer,
@@ -153,8 +151,6 @@ fn one_line<K: LineStore, P: Places>(
     places: &mut P,
     limits: &Limits,
 ) -> Answer
-where
-    P::Reader: Drop,
     requires range { IsLineInRange line.now }
     requires limits { AreLimits limits.now }
     ensures room { (S : State) (other : Option Change) → K.keeps store.old S other
@@ -187,8 +183,6 @@ pub fn script_plain<K: LineStore, P: Places>(
     places: &mut P,
     limits: &Limits,
 ) -> Result<Done<K>, (Memory, K)>
-where
-    P::Reader: Drop,
     requires apart { AreApartLines lines.now }
     requires ranges { AllByRecursion IsLineInRange lines.now }
     requires limits { AreLimits limits.now }

@@ -1,3 +1,4 @@
+use Rattle.std.specs.Prelude.{true}
 use Rattle.std.proofs.Common.{◌∙◌, ap, sym, subst, refl, List}
 use Rattle.std.specs.List.{AllByRecursion}
 use Rattle.vault_types.specs.declared.Line.{Line}
@@ -33,7 +34,7 @@ returns-in-Err-run_over g c p =
     let e = x.ensures in
     let before : World = world old p (i c.args.input) (o c.args.out) (r c.args.report.now) in
     let now : World = world (s x.result.shelf) p (i x.result.input) (o x.result.out) (r x.new.report) in
-    not_opened (RunsFill g.K.ScriptStore.in_order c.args.seed c.args.versions c.args.limits.now) before now x.result.answers.items x.result.fault c.in-Err-run_over.fault x.result.status
+    not_opened (RunsFill true c.args.seed c.args.versions c.args.limits.now) before now x.result.answers.items x.result.fault c.in-Err-run_over.fault x.result.status
     (subst (λ (t : ShelfTold). IsSameBut old t × IsStartFault old t c.in-Err-run_over.fault) (sym (ap s e.shelf)) c.in-Err-run_over.ensures.err)
     e.fault e.none refl (ap i e.input) (ap o e.out) e.line e.status
 
@@ -49,7 +50,7 @@ returns g c p =
     let f = c.print_filled-fault.result in
     let before : World = world (s c.args.shelf) p (i c.args.input) (o c.args.out) r in
     let now : World = world (s run.1) p (i c.args.input) (o c.print_filled-fault.new.out) r in
-    let runs = filled g.K.ScriptStore.in_order c.args.seed c.args.versions c.args.limits.now before now c.in-Ok.made.0.items c.as_slice-script.result.now run.0.items c.as_slice.result.now f c.in-Ok.made.1 c.run_over.new.places
+    let runs = filled c.args.seed c.args.versions c.args.limits.now before now c.in-Ok.made.0.items c.as_slice-script.result.now run.0.items c.as_slice.result.now f c.in-Ok.made.1 c.run_over.new.places
     c.in-Ok.ensures.lines c.as_slice-script.ensures.value c.as_slice.ensures.value c.in-Ok.ensures.places c.in-Ok-run_over.ensures.runs c.in-Ok-run_over.ensures.room c.print_filled-fault.ensures refl refl refl in
-    ran (RunsFill g.K.ScriptStore.in_order c.args.seed c.args.versions c.args.limits.now) before now (world (s done.shelf) p (i done.input) (o done.out) r) run.0.items done.answers.items f done.fault done.status
+    ran (RunsFill true c.args.seed c.args.versions c.args.limits.now) before now (world (s done.shelf) p (i done.input) (o done.out) r) run.0.items done.answers.items f done.fault done.status
     (λ j. world (s (e.shelf j)) p (i (e.input j)) (o (e.out j)) r) e.answers e.fault e.status c.in-Ok-run_over.ensures.opened runs

@@ -17,11 +17,11 @@ returns g c p =
     let e = c.ended_on_out.ensures in
     let done = c.ended_on_out.result in
     let before : World = world (s c.args.shelf) p (i c.args.input) (o c.args.out) (r c.args.report.now) in
-    let now : World = world (s done.shelf) p (i c.back_up-input.result.0) (o done.out) (r c.args.report.now) in
-    let a = answer_of c.back_up-input.result.1 in
+    let now : World = world (s done.shelf) p (i c.back_up-result.new.source) (o done.out) (r c.args.report.now) in
+    let a = answer_of c.back_up-result.result in
     let one = c.one_answer.result.items in
     let printed = printed_one a c.answer_from.result one done.answers.items c.one_answer.ensures c.answer_from.ensures e.answers before.out now.out done.fault e.printed in
-    let runs = backup_run g.K.StateKeeper.shelf g.K.StateKeeper.keeps g.K.StateKeeper.strays g.K.StateKeeper.keeps_is g.K.StateKeeper.strays_known c.args.limits.now before now c.in-Ok.opened.0 c.back_up-input.new.self c.args.set c.args.config.now c.back_up-input.result.1 done.fault
-    c.in-Ok.ensures.same e.shelf c.in-Ok.ensures.strays c.in-Ok.ensures.keeps c.back_up-input.ensures printed refl refl in
+    let runs = backup_run g.K.StateKeeper.shelf g.K.StateKeeper.keeps g.K.StateKeeper.strays g.K.StateKeeper.keeps_is g.K.StateKeeper.strays_known c.args.limits.now before now c.in-Ok.opened.0 c.back_up-result.new.self c.args.set c.args.config.now c.back_up-result.result done.fault
+    c.in-Ok.ensures.same e.shelf c.in-Ok.ensures.strays c.in-Ok.ensures.keeps c.back_up-result.ensures printed refl refl in
     subst (λ (t : SourceTold). GoesOn (RunsBackup c.args.set c.args.config.now c.args.limits.now) before (world (s done.shelf) p t (o done.out) (r c.args.report.now)) done.answers.items done.fault done.status) (sym (ap i e.input))
     (one_answer a c.answer_from.result one done.answers.items c.one_answer.ensures c.answer_from.ensures e.answers (RunsBackup c.args.set c.args.config.now c.args.limits.now) before now done.fault done.status e.status c.in-Ok.ensures.opened runs)

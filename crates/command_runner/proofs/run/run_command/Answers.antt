@@ -1,4 +1,4 @@
-use Rattle.std.specs.Prelude.{string_bytes}
+use Rattle.std.specs.Prelude.{true, string_bytes}
 use Rattle.std.proofs.Common.{◌∙◌, ap, ℕ, map, Option, Some, None}
 use Rattle.vault_types.specs.declared.Command.{Command}
 use Rattle.vault_types.specs.declared.Command.TheVariants as command
@@ -11,24 +11,9 @@ use Rattle.command_runner.proofs.Runs.{batch, one_line}
 use Rattle.command_runner.proofs.run.run_command.Goals as goal
 
 pub run_backup-requires-clause-config : goal.run_backup-requires-clause-config
-run_backup-requires-clause-config g c κs within =
+run_backup-requires-clause-config g c =
     let x = c.in-Ok-Backup-default-default-default-default-None in
-    (of_words (map string_bytes c.args.words.now) (command.Backup x.set x.config x.queue x.lanes x.field-0-4) (x.ensures.ok ∙ ap (λ (d : Command). Some d) x.field-0-is)).0
-
-pub run_backup-requires-clause-settings : goal.run_backup-requires-clause-settings
-run_backup-requires-clause-settings g c κs within =
-    let x = c.in-Ok-Backup-default-default-default-default-None in
-    (of_words (map string_bytes c.args.words.now) (command.Backup x.set x.config x.queue x.lanes x.field-0-4) (x.ensures.ok ∙ ap (λ (d : Command). Some d) x.field-0-is)).1
-
-pub run_batch-requires-clause-settings : goal.run_batch-requires-clause-settings
-run_batch-requires-clause-settings g c κs within =
-    let x = c.in-Ok-Batch in
-    of_words (map string_bytes c.args.words.now) (command.Batch x.queue x.lanes x.workers) (x.ensures.ok ∙ ap (λ (d : Command). Some d) x.field-0-is)
-
-pub run_fill-requires-clause-settings : goal.run_fill-requires-clause-settings
-run_fill-requires-clause-settings g c =
-    let x = c.in-Ok-Fill in
-    (of_words (map string_bytes c.args.words.now) (command.Fill x.seed x.versions x.queue x.lanes x.workers) (x.ensures.ok ∙ ap (λ (d : Command). Some d) x.field-0-is)).2
+    (of_words (map string_bytes c.args.words.now) (command.Backup x.set x.config x.field-0-2 x.field-0-3 x.field-0-4) (x.ensures.ok ∙ ap (λ (d : Command). Some d) x.field-0-is)).0
 
 pub returns-in-Ok-Backup-default-default-default-default-None : goal.returns-in-Ok-Backup-default-default-default-default-None
 returns-in-Ok-Backup-default-default-default-default-None g c =
@@ -36,8 +21,8 @@ returns-in-Ok-Backup-default-default-default-default-None g c =
     let before : World = world (g.S.Shelf.told c.args.shelf) (g.P.Places.told c.args.places.now) (g.I.Source.told c.args.input) (g.O.Sink.told c.args.out) (g.R.Sink.told c.args.report.now) in
     let now : World = world (g.S.Shelf.told c.run_backup.result.shelf) (g.P.Places.told c.args.places.now) (g.I.Source.told c.run_backup.result.input) (g.O.Sink.told c.run_backup.result.out) (g.R.Sink.told c.run_backup.new.report) in
     let r = c.run_backup.result in
-    one_line g.K.ScriptStore.in_order (map string_bytes c.args.words.now) c.args.limits.now before now r.answers.items (command.Backup x.set x.config x.queue x.lanes None) r.fault r.status (RunsBackup x.set x.config c.args.limits.now)
-    (x.ensures.ok ∙ ap (λ (d : Command). Some d) x.field-0-is ∙ ap (λ (o : Option (ℕ × ℕ)). Some (command.Backup x.set x.config x.queue x.lanes o)) x.field-0-4-is) tt (λ ran. ran) (c.run_backup.ensures (g.P.Places.told c.args.places.now))
+    one_line (map string_bytes c.args.words.now) c.args.limits.now before now r.answers.items (command.Backup x.set x.config x.field-0-2 x.field-0-3 None) r.fault r.status (RunsBackup x.set x.config c.args.limits.now)
+    (x.ensures.ok ∙ ap (λ (d : Command). Some d) x.field-0-is ∙ ap (λ (o : Option (ℕ × ℕ)). Some (command.Backup x.set x.config x.field-0-2 x.field-0-3 o)) x.field-0-4-is) tt (λ ran. ran) (c.run_backup.ensures (g.P.Places.told c.args.places.now))
 
 pub run_restore-requires-clause-some : goal.run_restore-requires-clause-some
 run_restore-requires-clause-some g c =
@@ -55,7 +40,7 @@ returns-in-Ok-Restore-default-default-default-None g c =
     let before : World = world (g.S.Shelf.told c.args.shelf) (g.P.Places.told c.args.places.now) (g.I.Source.told c.args.input) (g.O.Sink.told c.args.out) (g.R.Sink.told c.args.report.now) in
     let now : World = world (g.S.Shelf.told c.run_restore.result.shelf) (g.P.Places.told c.args.places.now) (g.I.Source.told c.run_restore.result.input) (g.O.Sink.told c.run_restore.result.out) (g.R.Sink.told c.run_restore.new.report) in
     let r = c.run_restore.result in
-    one_line g.K.ScriptStore.in_order (map string_bytes c.args.words.now) c.args.limits.now before now r.answers.items (command.Restore x.set x.version x.cache None) r.fault r.status (RunsRestore x.set x.version x.cache c.args.limits.now)
+    one_line (map string_bytes c.args.words.now) c.args.limits.now before now r.answers.items (command.Restore x.set x.version x.cache None) r.fault r.status (RunsRestore x.set x.version x.cache c.args.limits.now)
     (x.ensures.ok ∙ ap (λ (d : Command). Some d) x.field-0-is ∙ ap (λ (o : Option ℕ). Some (command.Restore x.set x.version x.cache o)) x.field-0-3-is) tt (λ ran. ran) (c.run_restore.ensures c.args.limits.now (g.P.Places.told c.args.places.now))
 
 pub returns-in-Ok-Delete : goal.returns-in-Ok-Delete
@@ -64,7 +49,7 @@ returns-in-Ok-Delete g c =
     let before : World = world (g.S.Shelf.told c.args.shelf) (g.P.Places.told c.args.places.now) (g.I.Source.told c.args.input) (g.O.Sink.told c.args.out) (g.R.Sink.told c.args.report.now) in
     let now : World = world (g.S.Shelf.told c.run_delete.result.shelf) (g.P.Places.told c.args.places.now) (g.I.Source.told c.run_delete.result.input) (g.O.Sink.told c.run_delete.result.out) (g.R.Sink.told c.run_delete.new.report) in
     let r = c.run_delete.result in
-    one_line g.K.ScriptStore.in_order (map string_bytes c.args.words.now) c.args.limits.now before now r.answers.items (command.Delete x.set x.through) r.fault r.status (RunsDelete x.set x.through c.args.limits.now)
+    one_line (map string_bytes c.args.words.now) c.args.limits.now before now r.answers.items (command.Delete x.set x.through) r.fault r.status (RunsDelete x.set x.through c.args.limits.now)
     (x.ensures.ok ∙ ap (λ (d : Command). Some d) x.field-0-is) tt (λ ran. ran) (c.run_delete.ensures c.args.limits.now (g.P.Places.told c.args.places.now))
 
 pub returns-in-Ok-Show : goal.returns-in-Ok-Show
@@ -73,7 +58,7 @@ returns-in-Ok-Show g c =
     let before : World = world (g.S.Shelf.told c.args.shelf) (g.P.Places.told c.args.places.now) (g.I.Source.told c.args.input) (g.O.Sink.told c.args.out) (g.R.Sink.told c.args.report.now) in
     let now : World = world (g.S.Shelf.told c.run_show.result.shelf) (g.P.Places.told c.args.places.now) (g.I.Source.told c.run_show.result.input) (g.O.Sink.told c.run_show.result.out) (g.R.Sink.told c.run_show.new.report) in
     let r = c.run_show.result in
-    one_line g.K.ScriptStore.in_order (map string_bytes c.args.words.now) c.args.limits.now before now r.answers.items (command.Show x.set x.version) r.fault r.status (RunsShow x.set x.version)
+    one_line (map string_bytes c.args.words.now) c.args.limits.now before now r.answers.items (command.Show x.set x.version) r.fault r.status (RunsShow x.set x.version)
     (x.ensures.ok ∙ ap (λ (d : Command). Some d) x.field-0-is) tt (λ ran. ran) (c.run_show.ensures (g.P.Places.told c.args.places.now))
 
 pub returns-in-Ok-Batch : goal.returns-in-Ok-Batch
@@ -82,12 +67,12 @@ returns-in-Ok-Batch g c =
     let before : World = world (g.S.Shelf.told c.args.shelf) (g.P.Places.told c.args.places.now) (g.I.Source.told c.args.input) (g.O.Sink.told c.args.out) (g.R.Sink.told c.args.report.now) in
     let now : World = world (g.S.Shelf.told c.run_batch.result.shelf) (g.P.Places.told c.run_batch.new.places) (g.I.Source.told c.run_batch.result.input) (g.O.Sink.told c.run_batch.result.out) (g.R.Sink.told c.run_batch.new.report) in
     let r = c.run_batch.result in
-    batch g.K.ScriptStore.in_order (map string_bytes c.args.words.now) c.args.limits.now before now r.answers.items r.fault r.status x.queue x.lanes x.workers (x.ensures.ok ∙ ap (λ (d : Command). Some d) x.field-0-is) c.run_batch.ensures
+    batch (map string_bytes c.args.words.now) c.args.limits.now before now r.answers.items r.fault r.status x.field-0-0 x.field-0-1 x.field-0-2 (x.ensures.ok ∙ ap (λ (d : Command). Some d) x.field-0-is) c.run_batch.ensures
 
 pub run_fill-requires-clause-few : goal.run_fill-requires-clause-few
 run_fill-requires-clause-few g c =
     let x = c.in-Ok-Fill in
-    (of_words (map string_bytes c.args.words.now) (command.Fill x.seed x.versions x.queue x.lanes x.workers) (x.ensures.ok ∙ ap (λ (d : Command). Some d) x.field-0-is)).1
+    (of_words (map string_bytes c.args.words.now) (command.Fill x.seed x.versions x.field-0-2 x.field-0-3 x.field-0-4) (x.ensures.ok ∙ ap (λ (d : Command). Some d) x.field-0-is)).1
 
 pub returns-in-Ok-Fill : goal.returns-in-Ok-Fill
 returns-in-Ok-Fill g c =
@@ -95,7 +80,7 @@ returns-in-Ok-Fill g c =
     let before : World = world (g.S.Shelf.told c.args.shelf) (g.P.Places.told c.args.places.now) (g.I.Source.told c.args.input) (g.O.Sink.told c.args.out) (g.R.Sink.told c.args.report.now) in
     let now : World = world (g.S.Shelf.told c.run_fill.result.shelf) (g.P.Places.told c.args.places.now) (g.I.Source.told c.run_fill.result.input) (g.O.Sink.told c.run_fill.result.out) (g.R.Sink.told c.run_fill.new.report) in
     let r = c.run_fill.result in
-    one_line g.K.ScriptStore.in_order (map string_bytes c.args.words.now) c.args.limits.now before now r.answers.items (command.Fill x.seed x.versions x.queue x.lanes x.workers) r.fault r.status (RunsFill g.K.ScriptStore.in_order x.seed x.versions c.args.limits.now)
+    one_line (map string_bytes c.args.words.now) c.args.limits.now before now r.answers.items (command.Fill x.seed x.versions x.field-0-2 x.field-0-3 x.field-0-4) r.fault r.status (RunsFill true x.seed x.versions c.args.limits.now)
     (x.ensures.ok ∙ ap (λ (d : Command). Some d) x.field-0-is) tt (λ ran. ran) (c.run_fill.ensures (g.P.Places.told c.args.places.now))
 
 pub returns-in-Ok-Migrate : goal.returns-in-Ok-Migrate
@@ -104,5 +89,5 @@ returns-in-Ok-Migrate g c =
     let before : World = world (g.S.Shelf.told c.args.shelf) (g.P.Places.told c.args.places.now) (g.I.Source.told c.args.input) (g.O.Sink.told c.args.out) (g.R.Sink.told c.args.report.now) in
     let now : World = world (g.S.Shelf.told c.run_migrate.result.shelf) (g.P.Places.told c.args.places.now) (g.I.Source.told c.run_migrate.result.input) (g.O.Sink.told c.run_migrate.result.out) (g.R.Sink.told c.run_migrate.new.report) in
     let r = c.run_migrate.result in
-    one_line g.K.ScriptStore.in_order (map string_bytes c.args.words.now) c.args.limits.now before now r.answers.items command.Migrate r.fault r.status RunsMigrate
+    one_line (map string_bytes c.args.words.now) c.args.limits.now before now r.answers.items command.Migrate r.fault r.status RunsMigrate
     (x.ensures.ok ∙ ap (λ (d : Command). Some d) x.field-0-is) tt (λ ran. ran) (c.run_migrate.ensures (g.P.Places.told c.args.places.now))

@@ -9,4 +9,4 @@ returns-clause-complete g c =
     let before : World = world (g.S.Shelf.told c.args.shelf) (g.P.Places.told c.args.places.now) (g.I.Source.told c.args.input) (g.O.Sink.told c.args.out) (g.R.Sink.told c.args.report.now) in
     let r = c.run_command.result in
     let now : World = world (g.S.Shelf.told r.shelf) (g.P.Places.told c.run_command.new.places) (g.I.Source.told r.input) (g.O.Sink.told r.out) (g.R.Sink.told c.run_command.new.report) in
-    completes g.K.ScriptStore.in_order (map string_bytes c.args.words.now) c.args.limits.now before now r.answers.items r.fault r.status c.run_command.ensures
+    completes (map string_bytes c.args.words.now) c.args.limits.now before now r.answers.items r.fault r.status c.run_command.ensures

@@ -33,10 +33,10 @@ returns-in-Ok-result g c =
     let q = g.P.Places.told c.close_source.new.self in
     let o = c.in-Ok.ensures in
     let k = c.close_source.ensures in
-    backup_line_ok g.K.StateKeeper.shelf g.K.StateKeeper.keeps g.K.StateKeeper.strays c.args.limits.now c.args.store.now c.back_up-source.new.self p m q c.args.set c.args.name.now c.as_str.result.now c.args.config.now c.in-Ok-result.answer
-    (g.P.Reader.Source.told c.in-Ok.source) (g.P.Reader.Source.told c.back_up-source.result.0) c.as_str.ensures
+    backup_line_ok g.K.StateKeeper.shelf g.K.StateKeeper.keeps g.K.StateKeeper.strays c.args.limits.now c.args.store.now c.back_up-result.new.self p m q c.args.set c.args.name.now c.as_str.result.now c.args.config.now c.in-Ok-result.answer
+    (g.P.Reader.Source.told c.in-Ok.source) (g.P.Reader.Source.told c.back_up-result.new.source) c.as_str.ensures
     (record { reader = o.reader; opened_files = o.files; later = o.cause.later; reads = o.read_faults; writes = o.write_faults; closed_files = k.files; same = k.faults; added_reads = k.read_faults; same_writes = k.write_faults })
-    (rw (sym c.in-Ok-result.is) c.back_up-source.ensures)
+    c.in-Ok-result.ensures
 
 pub returns-in-Err : goal.returns-in-Err
 returns-in-Err g c =
@@ -45,7 +45,7 @@ returns-in-Err g c =
     let q = g.P.Places.told c.close_source.new.self in
     let o = c.in-Ok.ensures in
     let k = c.close_source.ensures in
-    backup_line_err g.K.StateKeeper.shelf g.K.StateKeeper.keeps g.K.StateKeeper.strays c.args.limits.now c.args.store.now c.back_up-source.new.self p m q c.args.set c.args.name.now c.as_str.result.now c.args.config.now c.in-Err.fault c.with_read_number.result
-    (g.P.Reader.Source.told c.in-Ok.source) (g.P.Reader.Source.told c.back_up-source.result.0) (c.with_read_number.ensures ∙ ap (λ (n : ℕ). read_numbered n c.in-Err.fault) c.read_faults.ensures) c.as_str.ensures
+    backup_line_err g.K.StateKeeper.shelf g.K.StateKeeper.keeps g.K.StateKeeper.strays c.args.limits.now c.args.store.now c.back_up-result.new.self p m q c.args.set c.args.name.now c.as_str.result.now c.args.config.now c.in-Err.fault c.with_read_number.result
+    (g.P.Reader.Source.told c.in-Ok.source) (g.P.Reader.Source.told c.back_up-result.new.source) (c.with_read_number.ensures ∙ ap (λ (n : ℕ). read_numbered n c.in-Err.fault) c.read_faults.ensures) c.as_str.ensures
     (record { reader = o.reader; opened_files = o.files; later = o.cause.later; reads = o.read_faults; writes = o.write_faults; closed_files = k.files; same = k.faults; added_reads = k.read_faults; same_writes = k.write_faults })
-    (rw (sym c.in-Err.is) c.back_up-source.ensures)
+    c.in-Err.ensures

@@ -20,8 +20,9 @@ abbrev pub as_begun : {I : Type 0} → JobView I → JobView I
 as_begun j = record j { taken = []; stopped = false }
 
 -- nothing was put into the filler yet
-abbrev pub IsToFill : Began → View → Filling → List ℕ → ℕ → Type 0
-IsToFill b now f lens limit = HasFilledParts b now f lens [] × (limit ≡ b.limits.chunks)
+pub record IsToFill (b : Began) (now : View) (f : Filling) (lens : List ℕ) (limit : ℕ) : Type 0 where
+  pub filled : HasFilledParts b now f lens []
+  pub limit_is : limit ≡ b.limits.chunks
 
 -- what a filling comes to behind these parts and this last item. At the end all is put, where the parts
 -- are those of the bytes that were read; else a put stopped, or the job failed. More parts than the

@@ -73,12 +73,10 @@ pub(crate) fn fill<I: Source + Drop, R: Wait + Clock, S: Shelf>(
                 }
                 count += 1;
             }
-            Err(Last::End) => {
-                return match finish_parts(alloc, keeper, filler, lens) {
-                    Ok(rest) => Outcome::Put(rest),
-                    Err(fault) => Outcome::Failed(fault),
-                };
-            }
+            Err(Last::End) => match finish_parts(alloc, keeper, filler, lens) {
+                Ok(rest) => return Outcome::Put(rest),
+                Err(fault) => return Outcome::Failed(fault),
+            },
             Err(Last::Failed(fault)) => return Outcome::Failed(fault),
             Err(Last::Stopped) => return Outcome::Never,
         }

@@ -1,0 +1,4 @@
+pub mod Flows
+pub mod Fills
+pub mod Backs
+pub mod Starts

@@ -1,0 +1,55 @@
+-- A job begins.
+use Rattle.std.proofs.Common.{◌≡◌, ℕ, List, [], false, ap, ◌∙◌, arith}
+use Rattle.vault_types.specs.declared.Fault.TheVariants as fault
+use Rattle.vault_types.specs.declared.JobConfig.{JobConfig}
+use Rattle.vault_types.specs.declared.Limits.{Limits}
+use Rattle.vault_types.specs.JobRanges.{IsCuttable}
+use Rattle.vault_traits.specs.Told.{SourceTold}
+use Rattle.container_fill.specs.Filling.{Filling, HasFilled}
+use Rattle.keeper_catalog.specs.View.{View}
+use Rattle.pipe_run.specs.Jobs.{JobView}
+use Rattle.backup_jobs.specs.declared.opening.Opened.{Opened}
+use Rattle.backup_jobs.specs.Going.{IsOpened, IsStopped, HasFilledParts, began_with}
+use Rattle.backup_jobs.proofs.Causes.{gives_none}
+use Rattle.pipe_backup.specs.Piping.{IsJobFor}
+
+module _ (s : ℕ) (config : JobConfig) (limits : Limits) (before now : View) (from : SourceTold) (o : Opened) (h : IsOpened s config limits before now from o) where
+  pub fills : IsCuttable config.cutting → (f : Filling) → HasFilled f o.job.first [] [] [] → f.capacity ≡ config.container → (lens : List ℕ) → lens ≡ []
+      → HasFilledParts (began_with s config limits before from o) now f lens []
+  fills can f filled capacity lens none = record {
+    containers = [];
+    underway = h.underway;
+    waits = h.waits;
+    named = h.named;
+    lens_are = none;
+    filled = filled;
+    capacity = capacity;
+    cuttable = can;
+    few = omega arith;
+  }
+
+  -- there was no memory for its stages
+  pub no_room : IsStopped (began_with s config limits before from o) now from fault.Memory
+  no_room = record {
+    read = [];
+    given = gives_none from.left;
+    within = omega arith;
+    source_later = omega arith;
+    containers = [];
+    underway = h.underway;
+    cause = tt;
+  }
+
+-- the stages are those of this job
+pub job_for : {I : Type 0} (s : ℕ) (config : JobConfig) (limits : Limits) (before : View) (told : I → SourceTold) (o : Opened) (source : I) (sparse : List ℕ) (j : JobView I) → sparse ≡ o.sparse.items
+    → j ≡ record { source = source; cutting = config.cutting; rules = record { sparse = sparse; config = config }; limit = limits.chunks; index = o.index; taken = []; stopped = false }
+    → IsJobFor (began_with s config limits before (told source) o) told j
+job_for {I} s config limits before told o source sparse j same is = record {
+  source = ap (λ (k : JobView I). told k.source) is;
+  cutting = ap (λ (k : JobView I). k.cutting) is;
+  rules = ap (λ (k : JobView I). k.rules) is ∙ ap (λ (x : List ℕ). record { sparse = x; config = config }) same;
+  limit = ap (λ (k : JobView I). k.limit) is;
+  index = ap (λ (k : JobView I). k.index) is;
+  taken = ap (λ (k : JobView I). k.taken) is;
+  stopped = ap (λ (k : JobView I). k.stopped) is;
+}

@@ -211,7 +211,11 @@ fn is_as_one<R: Threads + Wait + Clock + Copy + Drop + Send>(
     let mut other = opened(alloc, case)?;
     let is_first = piped(rt, alloc, &mut other, case, 1, course)? == first;
     let is_second = piped(rt, alloc, &mut other, case, 2, course)? == second;
-    let is_same = are_same(alloc, &other.close().into_inner(), &one.close().into_inner())?;
+    let is_same = are_same(
+        alloc,
+        &other.close().into_inner(),
+        &one.close().into_inner(),
+    )?;
     Ok(is_first && is_second && is_same)
 }
 
@@ -227,13 +231,51 @@ fn answer_of<R: Threads + Wait + Clock + Copy + Drop + Send>(
 
 #[test]
 fn backups_store_what_one_thread_stores(rt: HostRuntime) -> Result<(), Fail> {
-    for lanes in [1, 2, 4] {
-        for queue in [1, 64] {
+    for lanes in [1, 2, 3, 4, 5, 6, 7, 8] {
+        for queue in [1, 2, 64] {
             assert!(rt;
                 is_as_one(rt, rt.alloc(), WHOLE, course_of(queue, lanes))?,
                 "{lanes} lanes, {queue} places"
             );
         }
+    }
+    Ok(())
+}
+
+// The number behind this one.
+fn next_number(number: u32) -> u32 {
+    number.wrapping_mul(1_664_525).wrapping_add(1_013_904_223)
+}
+
+fn kind_of(number: u32) -> Kind {
+    match number % 4 {
+        0 => Kind::Fixed,
+        1 => Kind::Extremum,
+        2 => Kind::Capped,
+        _ => Kind::Sparse,
+    }
+}
+
+fn course_from(number: u32) -> Course
+    ensures queue { 1 ≤ result.queue }
+    ensures lanes { (1 ≤ result.lanes) × (result.lanes ≤ 8) }
+{
+    course_of(number % 70 + 1, number / 70 % 8 + 1)
+}
+
+#[test]
+fn made_backups_store_what_one_thread_stores(rt: HostRuntime) -> Result<(), Fail> {
+    let mut number = 1;
+    for _ in 0..200 {
+        number = next_number(number);
+        let mut case = WHOLE;
+        case.kind = kind_of(number >> 8);
+        case.len = (number >> 10) as usize % 40_000;
+        let course = course_from(number >> 12);
+        assert!(rt;
+            is_as_one(rt, rt.alloc(), case, course)?,
+            "the backup of {number}"
+        );
     }
     Ok(())
 }
@@ -261,7 +303,10 @@ fn a_source_that_fails_is_told(rt: HostRuntime) -> Result<(), Fail> {
     for read in [1, 4, 11] {
         let mut case = WHOLE;
         case.read = read;
-        assert!(rt; answer_of(rt, rt.alloc(), case)? == Err(Fault::ReadFault(1)), "read {read}");
+        assert!(rt;
+            answer_of(rt, rt.alloc(), case)? == Err(Fault::ReadFault(1)),
+            "read {read}"
+        );
     }
     Ok(())
 }
@@ -285,7 +330,10 @@ fn a_shelf_that_fails_is_told_as_on_one_thread(rt: HostRuntime) -> Result<(), Fa
     for call in 2..24u64 {
         let mut case = WHOLE;
         case.call = call;
-        assert!(rt; is_as_one(rt, rt.alloc(), case, course_of(1, 2))?, "call {call}");
+        assert!(rt;
+            is_as_one(rt, rt.alloc(), case, course_of(1, 2))?,
+            "call {call}"
+        );
     }
     Ok(())
 }

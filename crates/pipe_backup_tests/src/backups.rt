@@ -107,7 +107,8 @@ fn opened(alloc: Global, case: Case) -> Result<Keeper<FaultShelf>, Fail>
 }
 
 fn limits_of(case: Case) -> Result<Limits, Fail>
-    ensures { IfOk result (λ limits. (1 ≤ limits.chunks) × (limits.chunks ≤ 4194304) × (limits.last ≤ 4294967294)) }
+    ensures { IfOk result (λ limits. (1 ≤ limits.chunks) × (limits.chunks ≤ 4194304)
+        × (limits.last ≤ 4294967294)) }
 {
     if case.chunks < 1 || case.chunks > 4_194_304 {
         return Err(Fail::from("the limit is in range"));
@@ -211,7 +212,11 @@ fn is_as_one<R: Threads + Wait + Clock + Copy + Drop + Send>(
     let mut other = opened(alloc, case)?;
     let is_first = piped(rt, alloc, &mut other, case, 1, course)? == first;
     let is_second = piped(rt, alloc, &mut other, case, 2, course)? == second;
-    let is_same = are_same(alloc, &other.close().into_inner(), &one.close().into_inner())?;
+    let is_same = are_same(
+        alloc,
+        &other.close().into_inner(),
+        &one.close().into_inner(),
+    )?;
     Ok(is_first && is_second && is_same)
 }
 
@@ -261,7 +266,10 @@ fn a_source_that_fails_is_told(rt: HostRuntime) -> Result<(), Fail> {
     for read in [1, 4, 11] {
         let mut case = WHOLE;
         case.read = read;
-        assert!(rt; answer_of(rt, rt.alloc(), case)? == Err(Fault::ReadFault(1)), "read {read}");
+        assert!(rt;
+            answer_of(rt, rt.alloc(), case)? == Err(Fault::ReadFault(1)),
+            "read {read}"
+        );
     }
     Ok(())
 }
@@ -285,7 +293,10 @@ fn a_shelf_that_fails_is_told_as_on_one_thread(rt: HostRuntime) -> Result<(), Fa
     for call in 2..24u64 {
         let mut case = WHOLE;
         case.call = call;
-        assert!(rt; is_as_one(rt, rt.alloc(), case, course_of(1, 2))?, "call {call}");
+        assert!(rt;
+            is_as_one(rt, rt.alloc(), case, course_of(1, 2))?,
+            "call {call}"
+        );
     }
     Ok(())
 }

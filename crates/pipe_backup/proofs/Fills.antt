@@ -1,17 +1,12 @@
 -- Parts that fill containers, one by one.
-use Rattle.std.proofs.Common.{◌≡◌, inl, inr, ℕ, ◌<◌, ◌≤◌, ◌+◌, List, [], ◌∷◌, ◌++◌, length, map, refl, sym, ap, ◌∙◌, subst, arith, length-append, Option, Some, None}
+use Rattle.std.proofs.Common.{◌≡◌, ℕ, ◌<◌, ◌≤◌, ◌+◌, List, [], ◌∷◌, ◌++◌, length, map, sym, subst, arith, length-append}
 use Rattle.std.proofs.lemmas.List.{length-map, map-append}
-use Rattle.vault_types.specs.declared.Fault.{Fault}
 use Rattle.rewrite_stage.specs.declared.Decided.{Decided}
-use Rattle.stage_flows.specs.declared.Last.{Last}
 use Rattle.stage_flows.specs.declared.Last.TheVariants as last
-use Rattle.stage_flows.specs.Runs.{run}
 use Rattle.container_fill.specs.Filling.{Filling}
 use Rattle.keeper_catalog.specs.View.{View}
-use Rattle.pipe_run.specs.Jobs.{JobView}
-use Rattle.backup_jobs.specs.Going.{Began, IsPutStop, HasFilledParts, part_of}
+use Rattle.backup_jobs.specs.Going.{Began, HasFilledParts, part_of}
 use Rattle.pipe_backup.specs.declared.filling.Outcome.TheVariants as outcome
-use Rattle.pipe_backup.specs.Piping.{IsFilledFrom}
 
 -- there is room for one more
 pub room_for : (b : Began) (parts : List Decided) (limit count : ℕ) → limit ≡ b.limits.chunks → count ≡ length parts → count < limit → length (map part_of parts) < b.limits.chunks

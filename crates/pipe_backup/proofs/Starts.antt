@@ -1,5 +1,5 @@
 -- A job begins.
-use Rattle.std.proofs.Common.{◌≡◌, ℕ, List, [], false, ap, ◌∙◌, arith}
+use Rattle.std.proofs.Common.{◌≡◌, ℕ, List, [], false, refl, ap, ◌∙◌, arith}
 use Rattle.vault_types.specs.declared.Fault.TheVariants as fault
 use Rattle.vault_types.specs.declared.JobConfig.{JobConfig}
 use Rattle.vault_types.specs.declared.Limits.{Limits}
@@ -9,23 +9,27 @@ use Rattle.container_fill.specs.Filling.{Filling, HasFilled}
 use Rattle.keeper_catalog.specs.View.{View}
 use Rattle.pipe_run.specs.Jobs.{JobView}
 use Rattle.backup_jobs.specs.declared.opening.Opened.{Opened}
-use Rattle.backup_jobs.specs.Going.{IsOpened, IsStopped, HasFilledParts, began_with}
+use Rattle.backup_jobs.specs.Going.{IsOpened, IsStopped, began_with}
 use Rattle.backup_jobs.proofs.Causes.{gives_none}
-use Rattle.pipe_backup.specs.Piping.{IsJobFor}
+use Rattle.pipe_backup.specs.Piping.{IsToFill, IsJobFor}
 
 module _ (s : ℕ) (config : JobConfig) (limits : Limits) (before now : View) (from : SourceTold) (o : Opened) (h : IsOpened s config limits before now from o) where
-  pub fills : IsCuttable config.cutting → (f : Filling) → HasFilled f o.job.first [] [] [] → f.capacity ≡ config.container → (lens : List ℕ) → lens ≡ []
-      → HasFilledParts (began_with s config limits before from o) now f lens []
-  fills can f filled capacity lens none = record {
-    containers = [];
-    underway = h.underway;
-    waits = h.waits;
-    named = h.named;
-    lens_are = none;
-    filled = filled;
-    capacity = capacity;
-    cuttable = can;
-    few = omega arith;
+  -- a new filler is to be filled
+  pub to_fill : IsCuttable config.cutting → (f : Filling) → HasFilled f o.job.first [] [] [] → f.capacity ≡ config.container → (lens : List ℕ) → lens ≡ []
+      → IsToFill (began_with s config limits before from o) now f lens limits.chunks
+  to_fill can f filled capacity lens none = record {
+    filled = record {
+      containers = [];
+      underway = h.underway;
+      waits = h.waits;
+      named = h.named;
+      lens_are = none;
+      filled = filled;
+      capacity = capacity;
+      cuttable = can;
+      few = omega arith;
+    };
+    limit_is = refl;
   }
 
   -- there was no memory for its stages

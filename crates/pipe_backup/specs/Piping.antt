@@ -11,7 +11,8 @@ use Rattle.stage_flows.specs.Runs.{run}
 use Rattle.container_fill.specs.Filling.{Filling}
 use Rattle.keeper_catalog.specs.View.{View}
 use Rattle.pipe_run.specs.Jobs.{JobView}
-use Rattle.backup_jobs.specs.Going.{Began, IsUnderway, IsPutStop, HasFilledParts, HasPutAll, part_of, rules_of, chunks_of}
+use Rattle.backup_jobs.specs.Going.{Began, IsUnderway, IsPutStop, HasFilledParts, HasPutAll}
+use Rattle.backup_jobs.specs.Going.{part_of, rules_of, chunks_of}
 use Rattle.pipe_backup.specs.declared.filling.Outcome.{Outcome}
 use Rattle.pipe_backup.specs.declared.filling.Outcome.TheVariants as outcome
 
@@ -27,11 +28,12 @@ pub record IsToFill (b : Began) (now : View) (f : Filling) (lens : List ℕ) (li
 -- what a filling comes to behind these parts and this last item. At the end all is put, where the parts
 -- are those of the bytes that were read; else a put stopped, or the job failed. More parts than the
 -- limit, and a stop of a job that was not stopped, are no parts of a job
-abbrev pub ComesTo : {I : Type 0} → Began → View → List ℕ → JobView I → JobView I → List Decided → Last → Outcome
-    → Type 0
+abbrev pub ComesTo : {I : Type 0} → Began → View → List ℕ → JobView I → JobView I → List Decided → Last
+    → Outcome → Type 0
 ComesTo b now lens from to parts l (outcome.Put r) =
     (l ≡ last.End)
-    × ((read : List ℕ) → map part_of parts ≡ decided_parts (found_in b.index) (rules_of b) (chunks_of b.config read)
+    × ((read : List ℕ)
+    → map part_of parts ≡ decided_parts (found_in b.index) (rules_of b) (chunks_of b.config read)
     → HasPutAll b now r lens read)
 ComesTo b now lens from to parts l (outcome.Failed f) =
     IsPutStop b now f ⊎ ((containers : List Container) × IsUnderway b now containers × (l ≡ last.Failed f))
@@ -39,7 +41,8 @@ ComesTo b now lens from to parts l outcome.Never =
     (b.limits.chunks < length parts) ⊎ ((l ≡ last.Stopped) × (to.stopped ≡ from.stopped))
 
 -- all that came out of a job was taken
-pub record IsFilledFrom {I : Type 0} (b : Began) (now : View) (lens : List ℕ) (from to : JobView I) (o : Outcome) : Type 0 where
+pub record IsFilledFrom {I : Type 0} (b : Began) (now : View) (lens : List ℕ) (from to : JobView I)
+    (o : Outcome) : Type 0 where
   pub parts : List Decided
   pub l : Last
   pub taken_are : to.taken ≡ run parts (Some l)

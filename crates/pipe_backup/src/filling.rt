@@ -1,5 +1,5 @@
 // What comes out of the stages goes into containers.
-ghost use Rattle.std.specs.Prelude.{◌≡◌, ◌++◌, [], List, ℕ, Some};
+ghost use Rattle.std.specs.Prelude.{◌≡◌, ◌++◌, [], List, Some};
 ghost use Rattle.rewrite_stage.specs.declared.Decided.{Decided as Decision};
 ghost use Rattle.stage_flows.specs.declared.Last.{Last as Lasts};
 ghost use Rattle.stage_flows.specs.Runs.{run};
@@ -28,7 +28,8 @@ pub(crate) enum Outcome {
 
 // Stops a job, and takes all that still comes out of it.
 fn drain<I: Source + Drop, R: Wait + Clock>(rt: &R, job: &mut Job<I>, fault: &Fault)
-    ensures taken { (more : List Decision) × (l : Lasts) × (job.new.taken ≡ job.old.taken ++ run more (Some l)) }
+    ensures taken { (more : List Decision) × (l : Lasts)
+        × (job.new.taken ≡ job.old.taken ++ run more (Some l)) }
     ensures same { as_begun job.new ≡ as_begun job.old }
 {
     job.stop(fault);

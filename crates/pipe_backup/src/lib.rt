@@ -22,8 +22,8 @@ use std::time::Clock;
 use vault_traits::{Shelf, Source};
 use vault_types::{Answer, Fault, JobConfig, Limits, Set};
 
-/// How a backup runs: how many items a line between two stages holds, over how many lanes chunks are named, and the stacks
-/// of the threads.
+/// How a backup runs: how many items a line between two stages holds, at least 1; over how many lanes chunks are named, 1 to
+/// 8; and the stacks of the threads.
 #[derive(Clone, Copy)]
 pub struct Course {
     pub queue: u32,
@@ -36,7 +36,13 @@ pub struct Course {
 /// more or the ids may run out, and then nothing is done; else `Memory`, `StoreFault`, `ReadFault`, `TooMany`. After an
 /// `Err` there is no job, and the store has the versions that it had; only a `StoreFault` may leave the new version on the
 /// shelf, until the next mending takes it back.
-pub fn backup_piped<'s, E: 's, R: Threads + Wait + Clock + Copy + Drop + Send + 's, S: Shelf, I: Source + Drop + Send + 's>(
+pub fn backup_piped<
+    's,
+    E: 's,
+    R: Threads + Wait + Clock + Copy + Drop + Send + 's,
+    S: Shelf,
+    I: Source + Drop + Send + 's,
+>(
     rt: R,
     alloc: Global,
     scope: &'s Scope<'s, E>,
@@ -54,7 +60,8 @@ pub fn backup_piped<'s, E: 's, R: Threads + Wait + Clock + Copy + Drop + Send + 
     requires last { limits.now.last ≤ 4294967294 }
     requires queue { 1 ≤ course.queue }
     requires lanes { (1 ≤ course.lanes) × (course.lanes ≤ 8) }
-    ensures { BacksUp set config.now limits.now keeper.old keeper.new (I.told source) (I.told result.0) result.1 }
+    ensures { BacksUp set config.now limits.now keeper.old keeper.new (I.told source) (I.told result.0)
+        result.1 }
 {
     let opened = match open_job(alloc, keeper, set, config, limits) {
         Ok(opened) => opened,
@@ -65,11 +72,27 @@ pub fn backup_piped<'s, E: 's, R: Threads + Wait + Clock + Copy + Drop + Send + 
     let room = match JobRoom::new(alloc, course.queue, course.lanes, sparse) {
         Ok(room) => room,
         Err(_) => {
-            let answer = close_job(alloc, keeper, &job, index, Err(Fault::Memory), lens.as_slice());
+            let answer = close_job(
+                alloc,
+                keeper,
+                &job,
+                index,
+                Err(Fault::Memory),
+                lens.as_slice(),
+            );
             return (source, answer);
         }
     };
-    let piped = Job::start_on(rt, room, scope, source, index, *config, limits.chunks, course.stacks);
+    let piped = Job::start_on(
+        rt,
+        room,
+        scope,
+        source,
+        index,
+        *config,
+        limits.chunks,
+        course.stacks,
+    );
     let filler = Filler::new(alloc, job.first, config.container);
     let (source, index, ended) = run(&rt, alloc, keeper, piped, filler, limits.chunks, &mut lens);
     let answer = close_job(alloc, keeper, &job, index, ended, lens.as_slice());

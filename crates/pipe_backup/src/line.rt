@@ -19,7 +19,13 @@ use vault_types::{Answer, Fault, JobConfig, Limits, Set};
 /// source comes back. `Full`, exactly where the set may have no version more or the ids may run out, and then nothing is
 /// done; else `Memory`, `StoreFault`, `ReadFault`, `TooMany`. After an `Err` the versions and the pins are as before; only a
 /// `StoreFault` may leave the new version on the shelf, until the next mending takes it back.
-pub fn backup_line_piped<'s, E: 's, R: Threads + Wait + Clock + Copy + Drop + Send + 's, S: Shelf, I: Source + Drop + Send + 's>(
+pub fn backup_line_piped<
+    's,
+    E: 's,
+    R: Threads + Wait + Clock + Copy + Drop + Send + 's,
+    S: Shelf,
+    I: Source + Drop + Send + 's,
+>(
     rt: R,
     alloc: Global,
     scope: &'s Scope<'s, E>,
@@ -38,8 +44,8 @@ pub fn backup_line_piped<'s, E: 's, R: Threads + Wait + Clock + Copy + Drop + Se
     requires queue { 1 ≤ course.queue }
     requires lanes { (1 ≤ course.lanes) × (course.lanes ≤ 8) }
     ensures line { (pins : List Pin) → BacksUpLine (IsStateWith keeper.old pins) (IsStateWith keeper.new pins)
-        (IsKnownStray keeper.old) (IsKnownStray keeper.new) limits.now set config.now keeper.old.told keeper.new.told
-        (I.told source) (I.told result.0) result.1 }
+        (IsKnownStray keeper.old) (IsKnownStray keeper.new) limits.now set config.now
+        keeper.old.told keeper.new.told (I.told source) (I.told result.0) result.1 }
     ensures same { (keeper.new.job ≡ None) × (keeper.new.pins ≡ keeper.old.pins) }
 
     // Each pin stays, with its containers.

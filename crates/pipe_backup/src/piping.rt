@@ -1,6 +1,5 @@
 // A job from its first item to its end.
 ghost use Rattle.std.specs.Prelude.{◌≡◌};
-ghost use Rattle.vault_types.specs.JobRanges.{IsCuttable};
 ghost use Rattle.backup_jobs.specs.Going.{Began, IsOver};
 ghost use Rattle.pipe_backup.specs.Piping.{IsToFill, IsJobFor};
 
@@ -27,9 +26,11 @@ pub(crate) fn run<I: Source + Drop, R: Threads + Wait + Clock, S: Shelf>(
     limit: u32,
     lens: &mut Vec<u32>,
 ) -> (I, Index, Result<StreamEnd, Fault>)
-    requires { (b : Began) × IsToFill b keeper.old filler lens.old.items limit × IsJobFor b (λ (i : I). I.told i) job }
+    requires { (b : Began) × IsToFill b keeper.old filler lens.old.items limit
+        × IsJobFor b (λ (i : I). I.told i) job }
     ensures index { result.1 ≡ job.index }
-    ensures over { (b : Began) → IsToFill b keeper.old filler lens.old.items limit → IsJobFor b (λ (i : I). I.told i) job
+    ensures over { (b : Began) → IsToFill b keeper.old filler lens.old.items limit
+        → IsJobFor b (λ (i : I). I.told i) job
         → IsOver b keeper.new (I.told result.0) lens.new.items result.2 }
 {
     let mut job = job;

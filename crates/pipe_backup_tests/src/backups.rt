@@ -107,7 +107,8 @@ fn opened(alloc: Global, case: Case) -> Result<Keeper<FaultShelf>, Fail>
 }
 
 fn limits_of(case: Case) -> Result<Limits, Fail>
-    ensures { IfOk result (λ limits. (1 ≤ limits.chunks) × (limits.chunks ≤ 4194304) × (limits.last ≤ 4294967294)) }
+    ensures { IfOk result (λ limits. (1 ≤ limits.chunks) × (limits.chunks ≤ 4194304)
+        × (limits.last ≤ 4294967294)) }
 {
     if case.chunks < 1 || case.chunks > 4_194_304 {
         return Err(Fail::from("the limit is in range"));

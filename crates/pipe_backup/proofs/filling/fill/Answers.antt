@@ -61,8 +61,7 @@ returns-in-Err-clause-filled g c b h =
 pub loop-preserved : goal.loop-preserved
 loop-preserved g c =
     let i = c.loop.invariant in
-    let d = c.in-Ok.part in
-    (
+    let d = c.in-Ok.part in (
       i.0 ++ d ∷ [],
       record {
         taken = part_taken c.loop.job c.next-in-loop.new.self c.next-in-loop.result c.next-in-loop.ensures i.0 d i.1.taken c.in-Ok.ensures;

@@ -1,6 +1,3 @@
-use Rattle.std.proofs.Common.{◌≡◌}
-use Rattle.vault_traits.specs.Told.{SourceTold}
-use Rattle.backup_jobs.specs.Going.{Began}
 use Rattle.pipe_backup.proofs.Backs.{back_for, over_put, over_failed, never_over}
 use Rattle.pipe_backup.proofs.piping.run.Goals as goal
 

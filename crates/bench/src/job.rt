@@ -8,11 +8,11 @@ use crate::watch::{Stop, Watch, rate};
 use folder_shelf::InSource;
 use fp_index::Index;
 use pipe_run::{Job, JobRoom, StackSizes};
+use stage_flows::{Last, parted};
 use std::sync::Wait;
 use std::thread;
 use std::thread::Threads;
 use std::time::Clock;
-use stage_flows::{Last, parted};
 use vault_traits::Source;
 use vault_types::JobConfig;
 
@@ -72,9 +72,7 @@ fn bytes_of<R: Threads + Wait + Clock + Copy + Drop + Send>(
             let index = Index::from_tables(alloc, &[])?;
             let room = JobRoom::new(alloc, queue, lanes, Vec::new(alloc))?;
             let source = InSource::new(host.stdin());
-            let mut job = Job::start_on(
-                rt, room, scope, source, index, config, 4_194_304, stacks,
-            );
+            let mut job = Job::start_on(rt, room, scope, source, index, config, 4_194_304, stacks);
             let bytes = take_all(&rt, &mut job);
             let (_, _, _, _) = job.end(&rt);
             bytes

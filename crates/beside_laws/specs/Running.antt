@@ -6,8 +6,9 @@ use Rattle.vault_types.specs.declared.Line.{Line}
 use Rattle.vault_types.specs.declared.Line.TheVariants.{Restore}
 use Rattle.store_model.specs.Causes.{store_number}
 
--- what has been of a restore that runs: the keeper from before its pin; its line, and the place of that among the lines;
--- how many payloads it has got; and the number of the store fault that it has met, if it has
+-- what has been of a restore that runs: the keeper from before its pin; its line, and the place of
+-- that among the lines; how many payloads it has got; and the number of the store fault that it has
+-- met, if it has
 pub record Past (K : Type 0) : Type 0 where
   pub from : K
   pub set : ℕ
@@ -73,6 +74,7 @@ with_answer answer p =
 abbrev pub line_of : {K : Type 0} → Running K → Line
 line_of p = Restore p.set p.version p.name p.cache
 
--- the number of a store fault that its answer still brings: that of a fault which it has met was counted then
+-- the number of a store fault that its answer still brings: that of a fault which it has met was
+-- counted then
 abbrev pub owed : {K : Type 0} → Running K → Option ℕ
 owed p = option_map_or (λ n. None) p.met (store_number p.answer)

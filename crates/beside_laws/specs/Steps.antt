@@ -106,8 +106,8 @@ pub record EndsRestore {K : Type 0} (shelf : K → ShelfTold) (keeps : K → Sta
   pub got : GetsMore keeps p 0
   pub output : OnFiles old.places.files new.places.files (λ x y. HasOutput keeps y p)
 
--- a part of a line that has not answered yet, as a put of a job: the state, the gets and the places'
--- bytes stay
+-- a part of a line that has not answered yet, as a put of a job: the state, the gets and the
+-- places' bytes stay
 pub record IsPart {K : Type 0} (shelf : K → ShelfTold) (keeps : K → State → Option Change → Type 0)
     (known : K → Name → Type 0) (old new : Moment K) : Type 0 where
   pub leaves : LeavesState shelf keeps known old.keeper new.keeper

@@ -1,7 +1,8 @@
-//! Lines in order with restores beside them: what the steps of such a run do (`specs/Steps`), a run step by step
-//! (`specs/Progress`), and that it is a run of the lines, whose answers rise in some order (`RunsLines false`). What a restore
-//! answers, gets and writes is said of the state from before its pin; a restore that runs beside lines owes at its end what
-//! the call for one thread ensures of one alone. All of it are laws over the definitions: a call that runs lines so cites
+//! Lines in order with restores beside them: what the steps of such a run do (`specs/Steps`), a run
+//! step by step (`specs/Progress`), and that it is a run of the lines, whose answers rise in some
+//! order (`RunsLines false`). What a restore answers, gets and writes is said of the state from
+//! before its pin; a restore that runs beside lines owes at its end what the call for one thread
+//! ensures of one alone. All of it are laws over the definitions: a call that runs lines so cites
 //! their proofs.
 #![tactic(auto)]
 
@@ -42,8 +43,9 @@ pub trait PinnedKeeper {
         → IsKept (shelf k) S other };
 }
 
-/// Lines of which all have begun, where no restore runs any more, are a run, if each stray that is there is known then. The
-/// name of a restore that runs is there among the places, and the place of its line has an answer to be set.
+/// Lines of which all have begun, where no restore runs any more, are a run, if each stray that is
+/// there is known then. The name of a restore that runs is there among the places, and the place of
+/// its line has an answer to be set.
 pub fn lines_with_restores_beside_are_a_run<K: PinnedKeeper>()
     ensures run { (limits : Limits) (lines : List Line) (old new : Moment K) (answers : List Answer)
         → ((T : State) (other : Option Change) → K.keeps new.keeper T other → (n : Name)
@@ -57,9 +59,9 @@ pub fn lines_with_restores_beside_are_a_run<K: PinnedKeeper>()
         → IsThere new.places.files p.name × (p.place < length answers) }
 {}
 
-/// A restore owes at its end what the call for one thread ensures of one from the keeper before its pin, over counts of its
-/// own: what its answer means, how many payloads it gets, where the shelf is told to have got none before, and what its name
-/// has behind the closing of its sink.
+/// A restore owes at its end what the call for one thread ensures of one from the keeper before its
+/// pin, over counts of its own: what its answer means, how many payloads it gets, where the shelf
+/// is told to have got none before, and what its name has behind the closing of its sink.
 pub fn a_restore_beside_answers_as_alone<K: PinnedKeeper>()
     ensures own { (limits : Limits) (p : Running K) (k : K) (old new : ShelfTold) (w v : SinkTold)
         (result : Result Answer Fault) (number : ℕ)

@@ -1,0 +1,11 @@
+pub mod Numbers
+pub mod Facts
+pub mod Apart
+pub mod Loads
+pub mod SourcesRead
+pub mod Comes
+pub mod Runs
+pub mod Loop
+pub mod Standing
+pub mod Whole
+pub mod Alone

@@ -39,7 +39,7 @@ struct Case {
 
 const WHOLE: Case = Case {
     kind: Kind::Fixed,
-    len: 300_000,
+    len: 60_000,
     read: 0,
     call: 0,
     chunks: 1_000,
@@ -50,24 +50,24 @@ fn settings(kind: Kind) -> JobConfig
 {
     let mut config = JobConfig::standard();
     config.cutting = Cutting::Fixed { size: 1_000 };
-    config.container = 50_000;
+    config.container = 10_000;
     config.rewrite = Rewrite::Off;
     match kind {
         Kind::Fixed => {}
         Kind::Extremum => {
             config.cutting = Cutting::Ae {
-                window: 512,
-                max: 8_192,
+                window: 128,
+                max: 2_048,
             };
         }
         Kind::Capped => {
             config.rewrite = Rewrite::Cap;
-            config.segment = 40_000;
+            config.segment = 8_000;
             config.cap = 1;
         }
         Kind::Sparse => {
             config.rewrite = Rewrite::Both;
-            config.segment = 40_000;
+            config.segment = 8_000;
             config.cap = 1;
             config.threshold = 60;
             config.limit = 100;
@@ -92,7 +92,7 @@ fn stream(alloc: Global, len: usize, version: usize) -> Result<Vec<u8>, Fail> {
 }
 
 fn source_of(alloc: Global, case: Case, version: usize) -> Result<FaultSource, Fail> {
-    let inner = MemSource::new(stream(alloc, case.len, version)?, 30_000);
+    let inner = MemSource::new(stream(alloc, case.len, version)?, 5_000);
     Ok(FaultSource::new(inner, [case.read].to_vec(alloc)?))
 }
 
@@ -156,12 +156,12 @@ fn piped<R: Threads + Wait + Clock + Copy + Drop + Send>(
         thread::scope_env(),
         &rt,
         |scope| -> Result<Answer, Fault>
-            requires no_job { keeper.old.job ≡ None }
+            requires no_job { keeper.now.job ≡ None }
             requires config { IsInRange config }
             requires limits { (1 ≤ limits.chunks) × (limits.chunks ≤ 4194304) × (limits.last ≤ 4294967294) }
             requires queue { 1 ≤ course.queue }
             requires lanes { (1 ≤ course.lanes) × (course.lanes ≤ 8) }
-            ensures { keeper.new.job ≡ None }
+            ensures { keeper.exit.now.job ≡ None }
         {
             let (_, answer) = backup_line_piped(
                 rt, alloc, scope, keeper, 3, source, &config, &limits, course,
@@ -301,7 +301,7 @@ fn a_backup_of_nothing_is_a_version(rt: HostRuntime) -> Result<(), Fail> {
 
 #[test]
 fn a_source_that_fails_is_told(rt: HostRuntime) -> Result<(), Fail> {
-    for read in [1, 4, 11] {
+    for read in [1, 4, 13] {
         let mut case = WHOLE;
         case.read = read;
         assert!(rt;
@@ -314,14 +314,14 @@ fn a_source_that_fails_is_told(rt: HostRuntime) -> Result<(), Fail> {
 
 #[test]
 fn too_many_chunks_are_told(rt: HostRuntime) -> Result<(), Fail> {
-    for chunks in [1, 100, 299] {
+    for chunks in [1, 20, 59] {
         let mut case = WHOLE;
         case.chunks = chunks;
         let told = Err(Fault::TooMany { limit: chunks });
         assert!(rt; answer_of(rt, rt.alloc(), case)? == told, "limit {chunks}");
     }
     let mut case = WHOLE;
-    case.chunks = 300;
+    case.chunks = 60;
     assert!(rt; is_as_one(rt, rt.alloc(), case, course_of(2, 2))?);
     Ok(())
 }

@@ -135,35 +135,35 @@ fn serial(
     Ok(backup_line(alloc, keeper, 3, &mut source, &settings(case.kind), &limits))
 }
 
-// The same in threads. The keeper comes back.
+// What two versions answered, and the shelf behind them.
+#[derive(Drop)]
+struct Came {
+    first: Result<Answer, Fault>,
+    second: Result<Answer, Fault>,
+    shelf: MemShelf,
+}
+
+// The same in threads, both versions.
 fn piped<R: Threads + Wait + Clock + Copy + Drop + Send>(
     rt: R,
     alloc: Global,
-    keeper: Keeper<FaultShelf>,
     case: Case,
-    version: usize,
     course: Course,
-) -> Result<(Keeper<FaultShelf>, Result<Answer, Fault>), Fail>
-    requires no_job { keeper.job ≡ None }
+) -> Result<Came, Fail>
     requires queue { 1 ≤ course.queue }
     requires lanes { (1 ≤ course.lanes) × (course.lanes ≤ 8) }
-    ensures { IfOk result (λ came. came.0.job ≡ None) }
 {
-    let limits = limits_of(case)?;
-    let source = source_of(alloc, case, version)?;
-    Ok(thread::scope(
+    thread::scope(
         thread::scope_env(),
         &rt,
-        |scope| -> (Keeper<FaultShelf>, Result<Answer, Fault>)
-            requires no_job { keeper.job ≡ None }
-            requires limits { (1 ≤ limits.chunks) × (limits.chunks ≤ 4194304) × (limits.last ≤ 4294967294) }
+        |scope| -> Result<Came, Fail>
             requires queue { 1 ≤ course.queue }
             requires lanes { (1 ≤ course.lanes) × (course.lanes ≤ 8) }
-            ensures { result.0.job ≡ None }
         {
-            let mut keeper = keeper;
-            let (config, limits) = (settings(case.kind), limits);
-            let (_, answer) = backup_line_piped(
+            let mut keeper = opened(alloc, case)?;
+            let (config, limits) = (settings(case.kind), limits_of(case)?);
+            let source = source_of(alloc, case, 1)?;
+            let (_, first) = backup_line_piped(
                 rt,
                 alloc,
                 scope,
@@ -174,9 +174,25 @@ fn piped<R: Threads + Wait + Clock + Copy + Drop + Send>(
                 &limits,
                 course,
             );
-            (keeper, answer)
+            let source = source_of(alloc, case, 2)?;
+            let (_, second) = backup_line_piped(
+                rt,
+                alloc,
+                scope,
+                &mut keeper,
+                3,
+                source,
+                &config,
+                &limits,
+                course,
+            );
+            Ok(Came {
+                first,
+                second,
+                shelf: keeper.close().into_inner(),
+            })
         },
-    ))
+    )
 }
 
 // Whether two stores have the same blobs, of the same names.
@@ -217,14 +233,9 @@ fn is_as_one<R: Threads + Wait + Clock + Copy + Drop + Send>(
     let mut one = opened(alloc, case)?;
     let first = serial(alloc, &mut one, case, 1)?;
     let second = serial(alloc, &mut one, case, 2)?;
-    let (other, other_first) = piped(rt, alloc, opened(alloc, case)?, case, 1, course)?;
-    let (other, other_second) = piped(rt, alloc, other, case, 2, course)?;
-    let is_same = are_same(
-        alloc,
-        &other.close().into_inner(),
-        &one.close().into_inner(),
-    )?;
-    Ok(other_first == first && other_second == second && is_same)
+    let other = piped(rt, alloc, case, course)?;
+    let is_same = are_same(alloc, &other.shelf, &one.close().into_inner())?;
+    Ok(other.first == first && other.second == second && is_same)
 }
 
 // What a first version in threads answers.
@@ -233,8 +244,7 @@ fn answer_of<R: Threads + Wait + Clock + Copy + Drop + Send>(
     alloc: Global,
     case: Case,
 ) -> Result<Result<Answer, Fault>, Fail> {
-    let (_, answer) = piped(rt, alloc, opened(alloc, case)?, case, 1, course_of(2, 2))?;
-    Ok(answer)
+    Ok(piped(rt, alloc, case, course_of(2, 2))?.first)
 }
 
 #[test]

@@ -1,0 +1,5 @@
+//! Ends.
+#![tactic(auto)]
+
+/// Nothing.
+pub fn nothing() {}

@@ -1,0 +1,46 @@
+-- A restore that is refused before it begins is what the call on one thread would have come to.
+use Rattle.std.proofs.Common.{◌≡◌, ℕ, ◌<◌, true, List, Ok, Err, refl}
+use Rattle.std.proofs.Math.Nat.{le_refl}
+use Rattle.std.specs.Option.{option_map}
+use Rattle.vault_types.specs.declared.Fault.{Fault}
+use Rattle.vault_types.specs.declared.Fault.TheVariants as fault
+use Rattle.vault_types.specs.Events.{Core, Pin, with_pins}
+use Rattle.vault_types.specs.State.{is_kept}
+use Rattle.vault_traits.specs.Told.{SinkTold}
+use Rattle.store_model.specs.Calls.{RestoresLine}
+use Rattle.keeper_catalog.specs.View.{View, Keeps, HasCore}
+use Rattle.keeper_core.specs.declared.pinning.Pinned.{Pinned}
+use Rattle.keeper_core.specs.Keeping.{IsStateWith, IsKnownStray}
+use Rattle.keeper_core.specs.Pins.{PinsVersion}
+use Rattle.keeper_core.specs.Releases.{Releases}
+use Rattle.serial_restore.specs.Restoring.{whole_of, HasGone}
+use Rattle.serial_restore.proofs.Goings.{pin_gone, stopped_gone}
+use Rattle.serial_restore.proofs.Lines.{kept_line}
+use Rattle.serial_restore.proofs.Loads.{stops_early}
+use Rattle.pin_laws.specs.Following.{Follows}
+use Rattle.pin_laws.proofs.Calls.{by_event}
+
+-- each pin stays over a restore that is over
+pub gone_follows : (v x : View) (told : SinkTold) (s n slots : ℕ) (f : Fault) → HasGone v x told told s n slots (Err f) → (number : ℕ) → Follows v x number
+gone_follows v x told s n slots f gone number = record {
+  tells = gone.left.tells;
+  cores = λ K keeps. let stayed = gone.left.state K keeps in record { core = with_pins K.pins stayed.strays K; keeps = stayed.keeps; pinned = λ p is there. there };
+}
+
+-- there was no memory
+pub memory_gone : (v : View) → HasCore v → (told : SinkTold) (s n slots : ℕ) → HasGone v v told told s n slots (Err fault.Memory)
+memory_gone v core told s n slots = pin_gone v v told s n slots fault.Memory core (λ K keeps. keeps, refl) (refl, refl, refl, refl) (refl, refl, refl) (λ K keeps. le_refl v.told.faults) (λ K keeps. tt)
+
+-- the pin was refused
+pub unpinned_gone : (v u : View) → HasCore v → (s n : ℕ) (f : Fault) → PinsVersion s n v u (Err f) → (told : SinkTold) (slots : ℕ) → HasGone v u told told s n slots (Err f)
+unpinned_gone v u core s n f p told slots = pin_gone v u told s n slots f core p.err p.same p.shelf (λ K keeps. (p.causes K keeps).later) (λ K keeps. (p.causes K keeps).each)
+
+-- behind the pin there was no memory, and it was released
+pub released_gone : (v u x : View) → HasCore v → (s n : ℕ) → s < 256 → (pin : Pinned) → PinsVersion s n v u (Ok pin) → Releases pin.no u x → (told : SinkTold) (slots : ℕ) → HasGone v x told told s n slots (Err fault.Memory)
+released_gone v u x core s n range pin p r told slots = stopped_gone v u u x told told s n slots core range pin p r fault.Memory
+    (stops_early u pin.no told pin.spots.items (option_map (whole_of s n) pin.whole) slots fault.Memory refl)
+
+-- its line, beside any pins
+pub refused_line : (v x : View) → HasCore v → (s n slots : ℕ) → s < 256 → ((K : Core) → Keeps v K → true ≡ is_kept K.state s n) → (f : Fault) → ((told : SinkTold) → HasGone v x told told s n slots (Err f))
+    → (pins : List Pin) (told : SinkTold) → RestoresLine (IsStateWith v pins) (IsStateWith x pins) (IsKnownStray v) (IsKnownStray x) s n slots v.told x.told told told (Err f)
+refused_line v x core s n slots range kept f gone pins told = kept_line v x told told s n slots (Err f) core range kept (gone told) pins

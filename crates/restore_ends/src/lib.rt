@@ -1,5 +1,0 @@
-//! Ends.
-#![tactic(auto)]
-
-/// Nothing.
-pub fn nothing() {}

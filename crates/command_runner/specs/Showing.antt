@@ -29,7 +29,7 @@ abbrev pub IsReadersFault : ℕ → ℕ → Fault → Type 0
 IsReadersFault s v (fault.WriteFault n) = ⊥
 IsReadersFault s v f = IsTrue (fits_show s v (Refused f))
 
-pub record ReadsRecipe (keeps : Keeping) (old new : ShelfTold) (s v : ℕ)
+pub record AnswersRecipe (keeps : Keeping) (old new : ShelfTold) (s v : ℕ)
     (result : Result Recipe Fault) : Type 0 where
   pub same : IsSameBut old new
   pub kind : IfErr result (IsReadersFault s v)

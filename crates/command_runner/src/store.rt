@@ -6,7 +6,7 @@ ghost use Rattle.store_model.specs.Leaves.{Begins};
 ghost use Rattle.store_model.specs.Strays.{StraysOf};
 ghost use Rattle.store_model.specs.Early.{HasOpened, IsSameBut, IsStartFault};
 ghost use Rattle.store_model.specs.Migrating.{MigratesStore};
-ghost use Rattle.command_runner.specs.Showing.{ReadsRecipe};
+ghost use Rattle.command_runner.specs.Showing.{AnswersRecipe};
 
 use script_runner::LineStore;
 use std::alloc::Global;
@@ -28,7 +28,7 @@ pub trait ShelfStore<S: Shelf>: LineStore {
     /// The recipe of a version. `NotKept`, exactly where the version is not kept; `StoreFault`, `Damaged`, `Memory`. All of the
     /// store is as before.
     fn recipe(&mut self, alloc: Global, set: Set, version: Version) -> Result<Recipe, Fault>
-        ensures reads { ReadsRecipe (Self.keeps self.old) (Self.shelf self.old) (Self.shelf self.new) set
+        ensures reads { AnswersRecipe (Self.keeps self.old) (Self.shelf self.old) (Self.shelf self.new) set
             version result }
         ensures few { IfOk result (λ r. length r.rows < 2 ^ 32) };
 

@@ -11,7 +11,7 @@ use Rattle.vault_types.specs.Names.{IsFp}
 use Rattle.vault_types.specs.Blobs.{table_row_bytes}
 use Rattle.blob_parts.specs.Reading.{list_at}
 use Rattle.blob_parts.proofs.Fields.{IsField, IsTag, fp_field, u32_field, u64_field, tag_field, both_field, made_field, list_field}
-use Rattle.container_store.specs.Reading.{table_tag, table_row_of, table_row_at, table_of, table_at, table_head, FitsTableRow, HasTableWidths}
+use Rattle.container_store.specs.Reading.{table_tag, table_row_of, table_row_at, table_of, table_body_at, table_head, FitsTableRow, HasTableWidths}
 
 row_back : TableRow → Fp × ℕ
 row_back r = (r.fp, r.len)
@@ -55,8 +55,8 @@ back : (t : Table) → HasTableWidths t → PartsFit (table_back t) × (table_of
 unfolding table_back
 back t fits = (((omega arith, refl), (fits.id, ((fits.few, fits.rows), fits.payload_sum))), refl)
 
-pub table_field : IsField table_at table_head HasTableWidths
-unfolding table_at
+pub table_field : IsField table_body_at table_head HasTableWidths
+unfolding table_body_at
 table_field =
     made_field
     (both_field (tag_field table_tag) (λ t tag. both_field u64_field (λ id fits. both_field rows_field (λ rows fit. fp_field))))

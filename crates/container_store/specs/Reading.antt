@@ -23,8 +23,8 @@ abbrev pub table_of : ℕ × (ℕ × (List TableRow × Fp)) → Table
 table_of p = record { id = p.1.0; rows = p.1.1.0; payload_sum = p.1.1.1 }
 
 -- all of a table but the sum of the blob
-unfoldable pub table_at : Field Table
-table_at =
+unfoldable pub table_body_at : Field Table
+table_body_at =
     made_at table_of
     (both_at (tag_at table_tag)
     (λ _. both_at (number_at w64) (λ _. both_at (list_at 24 table_row_at) (λ _. fp_at))))

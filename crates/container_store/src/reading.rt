@@ -6,7 +6,7 @@ ghost use Rattle.vault_types.specs.Tables.{IsTable, payload_len};
 ghost use Rattle.vault_types.specs.Blobs.{SpellsTable};
 ghost use Rattle.vault_types.specs.BlobDamage.{IsNoTable};
 ghost use Rattle.blob_parts.specs.Reading.{ReadsAs};
-ghost use Rattle.container_store.specs.Reading.{table_row_at, table_at, HasTableWidths};
+ghost use Rattle.container_store.specs.Reading.{table_row_at, table_body_at, HasTableWidths};
 
 use blob_parts::{FieldReader, Unread, body_of, fp_at, list_at, tag_at, u32_at, u64_at};
 use std::alloc::Global;
@@ -25,7 +25,7 @@ pub fn read_table(alloc: Global, bytes: &[u8], id: Id) -> Result<Table, Unread>
     let Some(body) = body_of(bytes, 0) else {
         return Err(Unread::Spelling);
     };
-    let (table, rest) = table_at(alloc, body)?;
+    let (table, rest) = table_body_at(alloc, body)?;
     if !rest.is_empty() || table.id != id {
         return Err(Unread::Spelling);
     }
@@ -75,9 +75,9 @@ fn are_distinct(alloc: Global, rows: &[TableRow]) -> Result<bool, Memory>
 }
 
 // All of a table but the sum of the blob, and what is behind it.
-#[tactic(auto, unfolding(crate::specs::Reading::table_at))]
-fn table_at(alloc: Global, bytes: &[u8]) -> Result<(Table, &[u8]), Unread>
-    ensures { ReadsAs (λ x. (x.0, x.1.now)) result (table_at bytes.now) }
+#[tactic(auto, unfolding(crate::specs::Reading::table_body_at))]
+fn table_body_at(alloc: Global, bytes: &[u8]) -> Result<(Table, &[u8]), Unread>
+    ensures { ReadsAs (λ x. (x.0, x.1.now)) result (table_body_at bytes.now) }
 {
     let rest = tag_at(bytes, TAG)?;
     let (id, rest) = u64_at(rest)?;

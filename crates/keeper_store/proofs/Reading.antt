@@ -25,7 +25,7 @@ use Rattle.commit_laws.proofs.Loading.{held_recipe}
 use Rattle.keeper_core.proofs.Replacings.{version_there}
 use Rattle.store_model.specs.Causes.{CausesRise, counts_of_shelf}
 use Rattle.store_model.specs.Courses.{fits_show}
-use Rattle.command_runner.specs.Showing.{IsUnread, IsReadersFault, ReadsRecipe}
+use Rattle.command_runner.specs.Showing.{IsUnread, IsReadersFault, AnswersRecipe}
 use Rattle.keeper_core.specs.Keeping.{IsStateOf}
 use Rattle.keeper_store.proofs.Opening.{same_but}
 use Rattle.commit_laws.proofs.Unique.{kept_number, kept_rules, with_whole, without_whole, plain_of}
@@ -146,6 +146,6 @@ module _ (v w : View) (s n : ℕ) (below : s < 256) (kept : (K : Core) → Keeps
 
   pub reads : (result : Result Recipe Fault) → IfOk result (λ r. (r.set ≡ s) × (r.version ≡ n) × (r.length ≡ length_of r.rows) × (length r.rows < 2 ^ 32))
       → IfOk result (λ r. IsSome v.told.blobs → (K : Core) (k : KeptVersion) → Keeps v K → version_of K.state s n ≡ Some k → SaysVersion r k) → HasCauses v.told.faults w.told.faults (IsRecipeDamage v.told.blobs s n) result
-      → ReadsRecipe (λ S other. IsStateOf v S other) v.told w.told s n result
+      → AnswersRecipe (λ S other. IsStateOf v S other) v.told w.told s n result
   reads (Ok r) named says causes = record { same = same_but v.told w.told shelf causes.later; kind = tt; causes = tt; says = λ S is. says_one S is r named says; refused = tt }
   reads (Err f) named says causes = record { same = same_but v.told w.told shelf causes.later; kind = (reader f causes.each causes.later).0; causes = (reader f causes.each causes.later).1; says = tt; refused = λ S is. unread S is f causes.each }

@@ -14,8 +14,8 @@ use Rattle.vault_types.specs.Names.{same_fp}
 use Rattle.vault_types.specs.Capping.{kept_ids}
 use Rattle.vault_types.specs.Decide.{Rules, is_write, is_written, only_if, counted_id, allowed_id, caps, decisions_of}
 use Rattle.rewrite_stage.specs.Deciding.{Deciding, HasDecided, looked_with}
-use Rattle.rewrite_stage.specs.Steps.{only_kept, allowed_of, pairs, decide_all}
-use Rattle.rewrite_stage.proofs.Steps.{decisions_in-is, pairs-looked}
+use Rattle.rewrite_stage.specs.Steps.{only_kept, allowed_of, fps_with_olds, decide_all}
+use Rattle.rewrite_stage.proofs.Steps.{decisions_in-is, fps_with_olds-looked}
 
 -- a list that a search found a number in, and one that it did not
 
@@ -96,11 +96,11 @@ capped-is config counted e = sym (map-same _ (only_kept (kept_ids counted config
 -- a whole segment
 pub whole_segment : (r : Rules) (places : List (Fp × How)) (cs : List (List ℕ)) (found counted allowed : List (Option ℕ)) (config : JobConfig) → config ≡ r.config
     → counted ≡ map (counted_id r places) (looked_with cs found) → allowed ≡ allowed_of config counted
-    → decide_all places (pairs cs allowed) ≡ decisions_of r places (looked_with cs found)
+    → decide_all places (fps_with_olds cs allowed) ≡ decisions_of r places (looked_with cs found)
 whole_segment r places cs found counted allowed config s n e =
-    ap (λ os. decide_all places (pairs cs os)) (e ∙ ap (λ j. allowed_of j counted) s ∙ ap (allowed_of r.config) n
+    ap (λ os. decide_all places (fps_with_olds cs os)) (e ∙ ap (λ j. allowed_of j counted) s ∙ ap (allowed_of r.config) n
     ∙ map-twice (counted_id r places) (λ o. only_if (λ c. cond (caps r.config.rewrite) (has c (kept_ids (map (counted_id r places) (looked_with cs found)) r.config.cap)) true) o) (looked_with cs found))
-    ∙ ap (decide_all places) (pairs-looked (allowed_id r places (looked_with cs found)) cs found)
+    ∙ ap (decide_all places) (fps_with_olds-looked (allowed_id r places (looked_with cs found)) cs found)
     ∙ sym (decisions_in-is (allowed_id r places (looked_with cs found)) places (looked_with cs found))
 
 -- a search in an ascending list tells whether the number is there

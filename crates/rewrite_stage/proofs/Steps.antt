@@ -8,7 +8,7 @@ use Rattle.vault_types.specs.Decide.{Rules, Looked, how, is_written, decisions_i
 use Rattle.fp_index.specs.Index.{found_in}
 use Rattle.rewrite_stage.specs.declared.Decided.{Decided}
 use Rattle.rewrite_stage.specs.Deciding.{Deciding, HasDecided, looked_with, looked_up, places_of}
-use Rattle.rewrite_stage.specs.Steps.{pairs, decide_all}
+use Rattle.rewrite_stage.specs.Steps.{fps_with_olds, decide_all}
 
 pub decide_all-push : (places : List (Fp × How)) (ps : List (Fp × Option ℕ)) (p : Fp × Option ℕ)
     → decide_all places (ps ++ p ∷ []) ≡ decide_all places ps ++ (p.0, how (is_written (decide_all places ps) p.0) p.1) ∷ []
@@ -19,11 +19,11 @@ pub decisions_in-is : (old : Looked → Option ℕ) (places : List (Fp × How)) 
 decisions_in-is old places [] = refl
 decisions_in-is old places (l ∷ ls) = decisions_in-is old (places ++ (l.fp, how (is_written places l.fp) (old l)) ∷ []) ls
 
-pub pairs-push : (cs : List (List ℕ)) (c : List ℕ) (os : List (Option ℕ)) → pairs (cs ++ c ∷ []) os ≡ pairs cs os ++ (fp c, get_or os (length cs) None) ∷ []
-pairs-push [] c [] = refl
-pairs-push [] c (o ∷ os) = refl
-pairs-push (d ∷ cs) c [] = ap (λ ps. (fp d, None) ∷ ps) (pairs-push cs c [])
-pairs-push (d ∷ cs) c (o ∷ os) = ap (λ ps. (fp d, o) ∷ ps) (pairs-push cs c os)
+pub fps_with_olds-push : (cs : List (List ℕ)) (c : List ℕ) (os : List (Option ℕ)) → fps_with_olds (cs ++ c ∷ []) os ≡ fps_with_olds cs os ++ (fp c, get_or os (length cs) None) ∷ []
+fps_with_olds-push [] c [] = refl
+fps_with_olds-push [] c (o ∷ os) = refl
+fps_with_olds-push (d ∷ cs) c [] = ap (λ ps. (fp d, None) ∷ ps) (fps_with_olds-push cs c [])
+fps_with_olds-push (d ∷ cs) c (o ∷ os) = ap (λ ps. (fp d, o) ∷ ps) (fps_with_olds-push cs c os)
 
 pub looked_with-push : (cs : List (List ℕ)) (c : List ℕ) (os : List (Option ℕ)) → looked_with (cs ++ c ∷ []) os ≡ looked_with cs os ++ record { fp = fp c; found = get_or os (length cs) None } ∷ []
 looked_with-push [] c [] = refl
@@ -31,10 +31,10 @@ looked_with-push [] c (o ∷ os) = refl
 looked_with-push (d ∷ cs) c [] = ap (λ ls. record { fp = fp d; found = None } ∷ ls) (looked_with-push cs c [])
 looked_with-push (d ∷ cs) c (o ∷ os) = ap (λ ls. record { fp = fp d; found = o } ∷ ls) (looked_with-push cs c os)
 
-pub pairs-looked : (g : Looked → Option ℕ) (cs : List (List ℕ)) (os : List (Option ℕ)) → pairs cs (map g (looked_with cs os)) ≡ map (λ l. (l.fp, g l)) (looked_with cs os)
-pairs-looked g [] os = refl
-pairs-looked g (c ∷ cs) [] = ap (λ ps. (fp c, g (record { fp = fp c; found = None })) ∷ ps) (pairs-looked g cs [])
-pairs-looked g (c ∷ cs) (o ∷ os) = ap (λ ps. (fp c, g (record { fp = fp c; found = o })) ∷ ps) (pairs-looked g cs os)
+pub fps_with_olds-looked : (g : Looked → Option ℕ) (cs : List (List ℕ)) (os : List (Option ℕ)) → fps_with_olds cs (map g (looked_with cs os)) ≡ map (λ l. (l.fp, g l)) (looked_with cs os)
+fps_with_olds-looked g [] os = refl
+fps_with_olds-looked g (c ∷ cs) [] = ap (λ ps. (fp c, g (record { fp = fp c; found = None })) ∷ ps) (fps_with_olds-looked g cs [])
+fps_with_olds-looked g (c ∷ cs) (o ∷ os) = ap (λ ps. (fp c, g (record { fp = fp c; found = o })) ∷ ps) (fps_with_olds-looked g cs os)
 
 pub looked-up : (index : List (Fp × List ℕ)) (cs : List (List ℕ)) → looked_with cs (map (λ c. found_in index (fp c)) cs) ≡ looked_up index cs
 looked-up index [] = refl
@@ -61,7 +61,7 @@ counted-more g chunks found items x i d l e h =
 pub record SoFar (old new : Deciding) (allowed : List (Option ℕ)) (chunks : List (List ℕ)) (ds : List Decided) : Type 0 where
   pub index : new.index ≡ old.index
   pub same : map (λ d. d.chunk) ds ≡ chunks
-  pub places : (r : Rules) (places : List (Fp × How)) → HasDecided old r places → places ++ places_of ds ≡ decide_all places (pairs chunks allowed)
+  pub places : (r : Rules) (places : List (Fp × How)) → HasDecided old r places → places ++ places_of ds ≡ decide_all places (fps_with_olds chunks allowed)
   pub decided : (r : Rules) (places : List (Fp × How)) → HasDecided old r places → HasDecided new r (places ++ places_of ds)
 
 pub so_far-none : (d : Deciding) (allowed : List (Option ℕ)) → SoFar d d allowed [] []
@@ -82,13 +82,13 @@ so_far-more old mid new allowed chunks ds c o h s index at says then' = record {
   same = map-append (λ (d : Decided). d.chunk) ds (record { chunk = c; how = h } ∷ []) ∙ ap (λ cs. cs ++ c ∷ []) s.same;
   places = λ r places i.
       let before : List (Fp × How) = places ++ places_of ds in
-      let whole : before ≡ decide_all places (pairs chunks allowed) = s.places r places i in
-      let answer : h ≡ how (is_written (decide_all places (pairs chunks allowed)) (fp c)) (get_or allowed (length chunks) None) =
-      says r before (s.decided r places i) ∙ ap (λ ps. how (is_written ps (fp c)) o) whole ∙ ap (λ p. how (is_written (decide_all places (pairs chunks allowed)) (fp c)) p) at in
+      let whole : before ≡ decide_all places (fps_with_olds chunks allowed) = s.places r places i in
+      let answer : h ≡ how (is_written (decide_all places (fps_with_olds chunks allowed)) (fp c)) (get_or allowed (length chunks) None) =
+      says r before (s.decided r places i) ∙ ap (λ ps. how (is_written ps (fp c)) o) whole ∙ ap (λ p. how (is_written (decide_all places (fps_with_olds chunks allowed)) (fp c)) p) at in
       places-push places ds (record { chunk = c; how = h })
       ∙ ap (λ ps. ps ++ (fp c, h) ∷ []) whole
-      ∙ ap (λ k. decide_all places (pairs chunks allowed) ++ (fp c, k) ∷ []) answer
-      ∙ sym (ap (decide_all places) (pairs-push chunks c allowed) ∙ decide_all-push places (pairs chunks allowed) (fp c, get_or allowed (length chunks) None));
+      ∙ ap (λ k. decide_all places (fps_with_olds chunks allowed) ++ (fp c, k) ∷ []) answer
+      ∙ sym (ap (decide_all places) (fps_with_olds-push chunks c allowed) ∙ decide_all-push places (fps_with_olds chunks allowed) (fp c, get_or allowed (length chunks) None));
   decided = λ r places i.
       subst (HasDecided new r) (sym (places-push places ds (record { chunk = c; how = h }))) (then' r (places ++ places_of ds) (s.decided r places i));
 }

@@ -19,10 +19,10 @@ allowed_of config counted =
     counted
 
 -- the fingerprints of some chunks with these containers, by place
-abbrev pub pairs : List (List ℕ) → List (Option ℕ) → List (Fp × Option ℕ)
-pairs [] olds = []
-pairs (c ∷ cs) [] = (fp c, None) ∷ pairs cs []
-pairs (c ∷ cs) (o ∷ os) = (fp c, o) ∷ pairs cs os
+abbrev pub fps_with_olds : List (List ℕ) → List (Option ℕ) → List (Fp × Option ℕ)
+fps_with_olds [] olds = []
+fps_with_olds (c ∷ cs) [] = (fp c, None) ∷ fps_with_olds cs []
+fps_with_olds (c ∷ cs) (o ∷ os) = (fp c, o) ∷ fps_with_olds cs os
 
 -- the places so far and those of these fingerprints
 abbrev pub decide_all : List (Fp × How) → List (Fp × Option ℕ) → List (Fp × How)

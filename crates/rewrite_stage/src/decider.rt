@@ -8,7 +8,7 @@ ghost use Rattle.vault_types.specs.Names.{fp as fp_of};
 ghost use Rattle.vault_types.specs.Decide.{Rules, is_written, how as how_of, caps as caps_of, avoids_sparse as avoids_of, counted_id, decisions_of};
 ghost use Rattle.fp_index.specs.Index.{found_in};
 ghost use Rattle.rewrite_stage.specs.Deciding.{HasDecided, looked_up, looked_with, places_of};
-ghost use Rattle.rewrite_stage.specs.Steps.{only_kept, allowed_of, pairs, decide_all};
+ghost use Rattle.rewrite_stage.specs.Steps.{only_kept, allowed_of, fps_with_olds, decide_all};
 ghost use Rattle.vault_types.specs.Capping.{kept_ids};
 
 use crate::Decided;
@@ -219,7 +219,7 @@ impl Decider {
             → IfOk result
             (λ decided.
             places ++ places_of decided.items
-            ≡ decide_all places (pairs (map (λ d. d.chunk) decided.items) allowed.now)) }
+            ≡ decide_all places (fps_with_olds (map (λ d. d.chunk) decided.items) allowed.now)) }
         ensures decided { (r : Rules) (places : List (Key × Stored)) → HasDecided self.old r places
             → IfOk result (λ decided. HasDecided self.new r (places ++ places_of decided.items)) }
     {

@@ -4,7 +4,7 @@ use Rattle.std.proofs.lemmas.Bool.{eqb-true}
 use Rattle.vault_types.specs.declared.Table.{Table}
 use Rattle.vault_types.specs.Tables.{IsTable}
 use Rattle.blob_parts.proofs.Fields.{passed_none, not_empty, blob_unread, blob_other, blob_fits, blob_spelled}
-use Rattle.container_store.specs.Reading.{table_at, table_head}
+use Rattle.container_store.specs.Reading.{table_body_at, table_head}
 use Rattle.container_store.proofs.TableLemmas.{has_widths}
 use Rattle.container_store.proofs.TableField.{table_field}
 use Rattle.container_store.proofs.reading.read_table.Goals as goal
@@ -17,7 +17,7 @@ pub returns-in_err-table-clause-none : goal.returns-in_err-table-clause-none
 returns-in_err-table-clause-none c spelling t spells =
     let p = err_from_is_err_and c.from_residual.result c.from_residual.ensures.1 in
     blob_unread table_field 0 c.args.bytes.now c.in-Some.body.now c.in-Some.ensures.found
-    (passed_none c.from_residual.result p.0 c.in_err-table.field-0.0 (table_at c.in-Some.body.now) p.1 p.2 spelling c.in_err-table.ensures)
+    (passed_none c.from_residual.result p.0 c.in_err-table.field-0.0 (table_body_at c.in-Some.body.now) p.1 p.2 spelling c.in_err-table.ensures)
     t (has_widths t spells.rules) spells.spelled
 
 pub returns-then-not-is_empty-clause-none : goal.returns-then-not-is_empty-clause-none

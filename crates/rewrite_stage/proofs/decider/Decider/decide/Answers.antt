@@ -3,7 +3,7 @@ use Rattle.std.proofs.lemmas.List.{length-map}
 use Rattle.vault_types.specs.Decide.{how, is_written}
 use Rattle.rewrite_stage.specs.declared.Decided.{Decided}
 use Rattle.rewrite_stage.specs.Deciding.{HasDecided}
-use Rattle.rewrite_stage.specs.Steps.{pairs, decide_all}
+use Rattle.rewrite_stage.specs.Steps.{fps_with_olds, decide_all}
 use Rattle.rewrite_stage.proofs.Steps.{SoFar, so_far-more}
 use Rattle.rewrite_stage.proofs.decider.Decider.decide.Goals as goal
 
@@ -22,4 +22,4 @@ loop-chunk-preserved c =
 
 pub returns-clause-places : goal.returns-clause-places
 returns-clause-places c = λ r places h.
-    c.loop-chunk.invariant.places r places h ∙ ap (λ cs. decide_all places (pairs cs c.args.allowed.now)) (sym c.loop-chunk.invariant.same)
+    c.loop-chunk.invariant.places r places h ∙ ap (λ cs. decide_all places (fps_with_olds cs c.args.allowed.now)) (sym c.loop-chunk.invariant.same)

@@ -1,6 +1,6 @@
 -- A run over a sound shelf where nothing failed has no fault.
 use Rattle.std.proofs.Common.{◌≡◌, inl, inr, ⊎_elim, ◌≤◌, ◌<◌, ◌-◌, ◌^◌, ℕ, false, true, List, [], ◌∷◌, ◌++◌, length, Option, Some, None, refl, sym, ap, subst, arith, ◌∙◌}
-use Rattle.std.specs.Prelude.{IsSome, IsSomeAnd, IfSome, Result, Ok, Err}
+use Rattle.std.specs.Prelude.{Bool, IsSome, IsSomeAnd, IfSome, Result, Ok, Err}
 use Rattle.vault_types.specs.declared.Limits.{Limits}
 use Rattle.vault_types.specs.declared.Command.{Command}
 use Rattle.vault_types.specs.declared.Command.TheVariants as command
@@ -49,7 +49,7 @@ fits : (left : Option (List ℕ)) (limits : Limits) (lines : List Line) → IsSo
 fits None limits lines some h = absurd (let clash : false ≡ true = some in cc)
 fits (Some text) limits lines some h = (text, refl, h.0, h.1)
 
-module _ (words : List (List ℕ)) (limits : Limits) (before now : World) (answers : List Answer) (c : Command) (S : State) (is : command_of words ≡ Some c) (can : CanOpen (Some c) limits before.input) (told : IsBatch (Some c) → IsSome before.input.left)
+module _ (in_order : Bool) (words : List (List ℕ)) (limits : Limits) (before now : World) (answers : List Answer) (c : Command) (S : State) (is : command_of words ≡ Some c) (can : CanOpen (Some c) limits before.input) (told : IsBatch (Some c) → IsSome before.input.left)
     (begins : Begins before.shelf S) (sound : IsSound S) (none : NoneRose before now) where
   script : (o : Option Command) → IsBatch o → CanOpen o limits before.input → (lines : List Line) × IsScript limits before.input lines
   script None batch h = absurd batch
@@ -119,7 +119,7 @@ module _ (words : List (List ℕ)) (limits : Limits) (before now : World) (answe
   ended None h = absurd h
   ended (Some f) h = (h.none, ap (λ (g : Fault). Some g) (early f h.why))
 
-  ran : (d : Command) (f : Option Fault) → IsBuilt d → Runs true Unbuilt d limits before now answers f → f ≡ None
+  ran : (d : Command) (f : Option Fault) → IsBuilt d → Runs in_order Unbuilt d limits before now answers f → f ≡ None
   ran (command.Backup s config q l None) f built r = printed (report_text answers) before.out now.out f none.out.0 none.out.1 r.runs.printed
   ran (command.Backup s config q l (Some p)) f built r = absurd built
   ran (command.Restore s v cache None) f built r = printed (report_text answers) before.report now.report f none.report.0 none.report.1 r.runs.printed
@@ -135,8 +135,8 @@ module _ (words : List (List ℕ)) (limits : Limits) (before now : World) (answe
   ran command.Migrate f built r = printed (report_text answers) before.out now.out f none.out.0 none.out.1 r.runs.printed
   ran (command.Scrub a) f built r = absurd built
 
-pub completes : (words : List (List ℕ)) (limits : Limits) (before now : World) (answers : List Answer) (f : Option Fault) (status : ℕ) → IsRun true Unbuilt words limits before now answers f status → IsCompleteRun words limits before now answers f
-completes words limits before now answers f status run c S is built can told begins sound none = ⊎_elim
-    (λ e. inr (ended words limits before now answers c S is can told begins sound none f e))
-    (λ r. inl (ran words limits before now answers c S is can told begins sound none c f built (subst (λ (o : Option Command). IsSomeAnd o (λ d. Runs true Unbuilt d limits before now answers f)) is r)))
+pub completes : (in_order : Bool) (words : List (List ℕ)) (limits : Limits) (before now : World) (answers : List Answer) (f : Option Fault) (status : ℕ) → IsRun in_order Unbuilt words limits before now answers f status → IsCompleteRun words limits before now answers f
+completes in_order words limits before now answers f status run c S is built can told begins sound none = ⊎_elim
+    (λ e. inr (ended in_order words limits before now answers c S is can told begins sound none f e))
+    (λ r. inl (ran in_order words limits before now answers c S is can told begins sound none c f built (subst (λ (o : Option Command). IsSomeAnd o (λ d. Runs in_order Unbuilt d limits before now answers f)) is r)))
     run.course

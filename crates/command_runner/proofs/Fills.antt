@@ -101,12 +101,12 @@ are_generated seed versions p made few is none bytes = record {
 }
 
 -- the script over the places that were made, behind the opening of the shelf
-pub filled : (seed versions : ℕ) (limits : Limits) (before now : World) (lines slice : List Line) (answers printed : List Answer) (f : Option Fault) (made left : FilledPlaces) → lines ≡ fill_lines versions → slice ≡ lines → printed ≡ answers → AreGenerated seed versions (told_of made)
-    → RunsLines true (Begins before.shelf) (StraysOf before.shelf) limits slice answers before.shelf now.shelf (told_of made) (told_of left)
+pub filled : (in_order : Bool) (seed versions : ℕ) (limits : Limits) (before now : World) (lines slice : List Line) (answers printed : List Answer) (f : Option Fault) (made left : FilledPlaces) → lines ≡ fill_lines versions → slice ≡ lines → printed ≡ answers → AreGenerated seed versions (told_of made)
+    → RunsLines in_order (Begins before.shelf) (StraysOf before.shelf) limits slice answers before.shelf now.shelf (told_of made) (told_of left)
     → ((T : State) (sources : Sources) → Begins before.shelf T → AreFedBy (told_of made).files sources slice → IsSome (told_of made).files → NeedRoom (Some 8388671) sources T slice answers)
     → IsPrinted (report_text printed ++ outputs_text (file_at left.seed left.places) slice printed) before.out now.out f
-    → now.report ≡ before.report → now.input ≡ before.input → now.places ≡ before.places → RunsFill true seed versions limits before now answers f
-filled seed versions limits before now lines slice answers printed f made left are same shown generated runs room text report input places =
+    → now.report ≡ before.report → now.input ≡ before.input → now.places ≡ before.places → RunsFill in_order seed versions limits before now answers f
+filled in_order seed versions limits before now lines slice answers printed f made left are same shown generated runs room text report input places =
     let all : slice ≡ fill_lines versions = same ∙ are in
     record {
       made = told_of made;
@@ -114,7 +114,7 @@ filled seed versions limits before now lines slice answers printed f made left a
       generated = generated;
       opened = refl;
       read = refl;
-      runs = subst (λ (ls : List Line). RunsLines true (Begins before.shelf) (StraysOf before.shelf) limits ls answers before.shelf now.shelf (told_of made) (told_of left)) all runs;
+      runs = subst (λ (ls : List Line). RunsLines in_order (Begins before.shelf) (StraysOf before.shelf) limits ls answers before.shelf now.shelf (told_of made) (told_of left)) all runs;
       room = subst (λ (ls : List Line). (T : State) (sources : Sources) → Begins before.shelf T → AreFedBy (told_of made).files sources ls → NeedRoom (Some 8388671) sources T ls answers) all (λ T sources begins fed. room T sources begins fed refl);
       printed = subst (λ (ls : List Line). IsPrinted (report_text answers ++ outputs_text (file_at left.seed left.places) ls answers) before.out now.out f) all
           (subst (λ (l : List Answer). IsPrinted (report_text l ++ outputs_text (file_at left.seed left.places) slice l) before.out now.out f) shown text);

@@ -1,5 +1,5 @@
 -- What a command's run is as a run of the words.
-use Rattle.std.specs.Prelude.{true, IsSomeAnd}
+use Rattle.std.specs.Prelude.{Bool, IsSomeAnd}
 use Rattle.std.proofs.Common.{◌≡◌, ◌⊎◌, inl, inr, ⊎_elim, ℕ, List, [], Option, Some, None, refl, sym, ap, subst, arith, ◌∙◌}
 use Rattle.vault_types.specs.declared.Limits.{Limits}
 use Rattle.vault_types.specs.declared.Command.{Command}
@@ -22,12 +22,12 @@ alone shelf = record { blobs = refl; history = refl; gets = refl; later = omega 
 same_shelf : (before now : ShelfTold) → now ≡ before → IsSameBut before now
 same_shelf before now same = subst (λ (t : ShelfTold). IsSameBut before t) (sym same) (alone before)
 
-module _ (words : List (List ℕ)) (limits : Limits) (before now : World) (answers : List Answer) where
+module _ (in_order : Bool) (words : List (List ℕ)) (limits : Limits) (before now : World) (answers : List Answer) where
   -- a command that is built
   as_run : (c : Command) (f : Option Fault) (status : ℕ) → command_of words ≡ Some c → status ≡ status_after answers f
-      → IsSomeAnd f (EndsEarly words limits before now answers) ⊎ Runs true Unbuilt c limits before now answers f → IsRun true Unbuilt words limits before now answers f status
+      → IsSomeAnd f (EndsEarly words limits before now answers) ⊎ Runs in_order Unbuilt c limits before now answers f → IsRun in_order Unbuilt words limits before now answers f status
   as_run c f status is stat course = record {
-    course = ⊎_elim (λ early. inl early) (λ ran. inr (subst (λ (o : Option Command). IsSomeAnd o (λ d. Runs true Unbuilt d limits before now answers f)) (sym is) ran)) course;
+    course = ⊎_elim (λ early. inl early) (λ ran. inr (subst (λ (o : Option Command). IsSomeAnd o (λ d. Runs in_order Unbuilt d limits before now answers f)) (sym is) ran)) course;
     status_is = stat;
   }
 
@@ -37,7 +37,7 @@ module _ (words : List (List ℕ)) (limits : Limits) (before now : World) (answe
 
   -- a command of one line
   pub one_line : (c : Command) (f : Option Fault) (status : ℕ) (Line : World → World → List Answer → Option Fault → Type 0) → command_of words ≡ Some c → CanOpen (Some c) limits before.input
-      → (RunsOpened Line before now answers f → Runs true Unbuilt c limits before now answers f) → GoesOn Line before now answers f status → IsRun true Unbuilt words limits before now answers f status
+      → (RunsOpened Line before now answers f → Runs in_order Unbuilt c limits before now answers f) → GoesOn Line before now answers f status → IsRun in_order Unbuilt words limits before now answers f status
   one_line c f status Line is can to goes = as_run c f status is goes.status_is
       (⊎_elim (λ early. inl (at_opening c f is can early)) (λ ran. inr (to ran)) goes.course)
 
@@ -76,11 +76,11 @@ module _ (words : List (List ℕ)) (limits : Limits) (before now : World) (answe
   refused_script (Some g) batch h = record { why = script_early g batch h.why; none = h.none; shelf = untouched g h.shelf; places = h.places; input = inl (batch, h.within); out = h.out; line = h.line }
 
   -- a script
-  pub batch : (f : Option Fault) (status queue lanes workers : ℕ) → command_of words ≡ Some (command.Batch queue lanes workers) → BatchGoes limits before now answers f status → IsRun true Unbuilt words limits before now answers f status
+  pub batch : (f : Option Fault) (status queue lanes workers : ℕ) → command_of words ≡ Some (command.Batch queue lanes workers) → BatchGoes in_order limits before now answers f status → IsRun in_order Unbuilt words limits before now answers f status
   batch f status queue lanes workers is goes = as_run (command.Batch queue lanes workers) f status is goes.status_is
       (⊎_elim
       (λ refused. inl (refused_script f (subst (λ (o : Option Command). IsBatch o) (sym is) tt) refused))
-      (λ runs. batch_run words limits before now runs.input answers true runs.lines f queue lanes workers is runs.script runs.read runs.within runs.goes)
+      (λ runs. batch_run words limits before now runs.input answers in_order runs.lines f queue lanes workers is runs.script runs.read runs.within runs.goes)
       goes.course)
 
   -- words that are no command, or no memory to read them
@@ -89,7 +89,7 @@ module _ (words : List (List ℕ)) (limits : Limits) (before now : World) (answe
   word_fault f (inr (e, none)) = subst (λ (g : Fault). IsEarly words limits before now g) (sym e) none
 
   pub no_words : (f : Option Fault) (g : Fault) (status : ℕ) → (g ≡ fault.Memory) ⊎ ((g ≡ fault.Usage) × (command_of words ≡ None)) → f ≡ Some g → answers ≡ [] → now.shelf ≡ before.shelf → now.places ≡ before.places → now.input ≡ before.input → now.out ≡ before.out
-      → IsTold g before.report now.report → status ≡ status_after [] (Some g) → IsRun true Unbuilt words limits before now answers f status
+      → IsTold g before.report now.report → status ≡ status_after [] (Some g) → IsRun in_order Unbuilt words limits before now answers f status
   no_words f g status why is none shelf places input out line stat =
       let early : EndsEarly words limits before now answers g = record { why = word_fault g why; none = none; shelf = untouched g shelf; places = places; input = inr input; out = out; line = line } in
       record {
@@ -98,8 +98,8 @@ module _ (words : List (List ℕ)) (limits : Limits) (before now : World) (answe
       }
 
   -- a command that is not built
-  pub unbuilt : (c : Command) (f : Option Fault) (status : ℕ) → command_of words ≡ Some c → (IsUnbuilt before now answers f → Runs true Unbuilt c limits before now answers f) → f ≡ Some fault.Usage → answers ≡ [] → now.shelf ≡ before.shelf → now.places ≡ before.places
-      → now.input ≡ before.input → now.out ≡ before.out → IsTold fault.Usage before.report now.report → status ≡ status_after [] (Some fault.Usage) → IsRun true Unbuilt words limits before now answers f status
+  pub unbuilt : (c : Command) (f : Option Fault) (status : ℕ) → command_of words ≡ Some c → (IsUnbuilt before now answers f → Runs in_order Unbuilt c limits before now answers f) → f ≡ Some fault.Usage → answers ≡ [] → now.shelf ≡ before.shelf → now.places ≡ before.places
+      → now.input ≡ before.input → now.out ≡ before.out → IsTold fault.Usage before.report now.report → status ≡ status_after [] (Some fault.Usage) → IsRun in_order Unbuilt words limits before now answers f status
   unbuilt c f status is to usage none shelf places input out line stat = as_run c f status is
       (stat ∙ ap (λ (l : List Answer). status_after l (Some fault.Usage)) (sym none) ∙ ap (λ (o : Option Fault). status_after answers o) (sym usage))
       (inr (to (record { usage = usage; none = none; shelf = shelf; places = places; input = input; out = out; line = line })))

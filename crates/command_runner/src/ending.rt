@@ -27,8 +27,8 @@ pub struct Ended<S, I, O> {
     pub out: O,
 }
 
-// The end of a run with these answers. It takes no memory.
-pub(crate) fn ended_with<S, I, O>(
+/// The end of a run with these answers. It takes no memory.
+pub fn ended_with<S, I, O>(
     shelf: S,
     answers: Vec<Answer>,
     fault: Option<Fault>,
@@ -52,8 +52,8 @@ pub(crate) fn ended_with<S, I, O>(
     }
 }
 
-// The end of a run before its first line: the fault's line is on `report`. It takes no memory.
-pub(crate) fn ended_early<S: Shelf, I: Source, O: Sink, R: Sink>(
+/// The end of a run before its first line: the fault's line is on `report`. It takes no memory.
+pub fn ended_early<S: Shelf, I: Source, O: Sink, R: Sink>(
     alloc: Global,
     fault: Fault,
     shelf: S,
@@ -73,8 +73,8 @@ pub(crate) fn ended_early<S: Shelf, I: Source, O: Sink, R: Sink>(
     ended_with(shelf, Vec::new(alloc), Some(fault), input, out)
 }
 
-// The end of a run whose report is on `out`.
-pub(crate) fn ended_on_out<S: Shelf, K: ShelfStore<S>, I: Source, O: Sink>(
+/// The end of a run whose report is on `out`.
+pub fn ended_on_out<S: Shelf, K: ShelfStore<S>, I: Source, O: Sink>(
     store: K,
     answers: Vec<Answer>,
     input: I,
@@ -91,8 +91,8 @@ pub(crate) fn ended_on_out<S: Shelf, K: ShelfStore<S>, I: Source, O: Sink>(
     ended_with(store.close(), answers, fault, input, out)
 }
 
-// The end of a run whose report is on `report`.
-pub(crate) fn ended_on_report<S: Shelf, K: ShelfStore<S>, I: Source, O: Sink, R: Sink>(
+/// The end of a run whose report is on `report`.
+pub fn ended_on_report<S: Shelf, K: ShelfStore<S>, I: Source, O: Sink, R: Sink>(
     store: K,
     answers: Vec<Answer>,
     input: I,
@@ -111,8 +111,8 @@ pub(crate) fn ended_on_report<S: Shelf, K: ShelfStore<S>, I: Source, O: Sink, R:
     ended_with(store.close(), answers, fault, input, out)
 }
 
-// The answer of a call that ran a line.
-pub(crate) fn answer_from(outcome: Result<Answer, Fault>) -> Answer
+/// The answer of a call that ran a line.
+pub fn answer_from(outcome: Result<Answer, Fault>) -> Answer
     ensures { result ≡ answer_of outcome }
 {
     match outcome {
@@ -121,8 +121,8 @@ pub(crate) fn answer_from(outcome: Result<Answer, Fault>) -> Answer
     }
 }
 
-// The answer, in the room that was taken for it.
-pub(crate) fn one_answer(room: Vec<Answer>, answer: Answer) -> Vec<Answer>
+/// The answer, in the room that was taken for it.
+pub fn one_answer(room: Vec<Answer>, answer: Answer) -> Vec<Answer>
     requires { (room.items ≡ []) × (vec_len room ≡ 0) × (1 ≤ vec_capacity room) }
     ensures { result.items ≡ answer ∷ [] }
 {
@@ -133,8 +133,8 @@ pub(crate) fn one_answer(room: Vec<Answer>, answer: Answer) -> Vec<Answer>
     }
 }
 
-// Opens the store, and takes the room for one answer.
-pub(crate) fn open_for_one<S: Shelf, K: ShelfStore<S>>(
+/// Opens the store, and takes the room for one answer.
+pub fn open_for_one<S: Shelf, K: ShelfStore<S>>(
     alloc: Global,
     shelf: S,
 ) -> Result<(K, Vec<Answer>), (Fault, S)>

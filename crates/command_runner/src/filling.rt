@@ -1,34 +1,26 @@
 // The script of `fill`, over places of its own.
-ghost use Rattle.std.specs.Prelude.{true, ◌≡◌, ◌≤◌, IsSome, IfOk, IfErr};
-ghost use Rattle.std.specs.List.{AllByRecursion};
+ghost use Rattle.std.specs.Prelude.{true, ◌≡◌, ◌≤◌, ℕ, Bool, Some, IfOk, IfErr};
 ghost use Rattle.vault_types.specs.Generator.{fill_lines};
-ghost use Rattle.vault_types.specs.Script.{Sources};
-ghost use Rattle.vault_types.specs.State.{State};
-ghost use Rattle.vault_traits.specs.Told.{PlacesTold};
-ghost use Rattle.store_model.specs.Leaves.{Begins};
-ghost use Rattle.store_model.specs.Outputs.{AreApartLines, AreFedBy};
-ghost use Rattle.store_model.specs.Room.{NeedRoom};
-ghost use Rattle.store_model.specs.Script.{RunsLines};
-ghost use Rattle.store_model.specs.Strays.{StraysOf};
-ghost use Rattle.store_model.specs.Early.{HasOpened, IsSameBut, IsStartFault};
+ghost use Rattle.vault_types.specs.declared.Limits.{Limits as LimitsOf};
+ghost use Rattle.vault_traits.specs.Told.{PlacesTold, ShelfTold};
 ghost use Rattle.store_model.specs.Filling.{AreGenerated, RunsFill};
-ghost use Rattle.store_model.specs.Ranges.{AreLimits, IsLineInRange};
-ghost use Rattle.workload.specs.Places.{told_of};
+ghost use Rattle.store_model.specs.Ranges.{AreLimits};
 ghost use Rattle.store_model.specs.World.{world};
-ghost use Rattle.command_runner.specs.Going.{GoesOn};
+ghost use Rattle.workload.specs.Places.{FilledPlaces, told_of};
+ghost use Rattle.command_runner.specs.Going.{GoesOn, HasRun, HasNotOpened};
 
 use crate::ending::{Ended, ended_early, ended_with};
+use crate::opened::run_over;
 use crate::outputs::print_filled;
 use crate::store::ShelfStore;
-use script_runner::{Done, script_plain};
 use script_words::fill_script;
 use std::alloc::Global;
-use vault_traits::{Places, Shelf, Sink, Source};
+use vault_traits::{Shelf, Sink, Source};
 use vault_types::{Answer, Fault, Limits, Line, Memory};
 use workload::FillPlaces;
 
-// The lines of the script, and the places that it runs over.
-fn script_and_places(
+/// The lines of the script of `fill`, and the places that it runs over.
+pub fn script_and_places(
     alloc: Global,
     seed: u64,
     versions: u32,
@@ -42,37 +34,34 @@ fn script_and_places(
     Ok((lines, places))
 }
 
-// Opens the store and runs the lines over the places.
-fn run_over<S: Shelf, K: ShelfStore<S>, Q: Places>(
+/// The end of a run of the script of `fill`, which gave this over these places: the report and the sums of what was
+/// restored are on `out`. It takes no memory.
+pub fn ended_fill<S: Shelf, I: Source, O: Sink, R: Sink>(
     alloc: Global,
-    lines: &[Line],
-    limits: &Limits,
-    shelf: S,
-    places: &mut Q,
-) -> Result<(Vec<Answer>, S), (Fault, S)>
-    requires apart { AreApartLines lines.now }
-    requires ranges { AllByRecursion IsLineInRange lines.now }
-    requires limits { AreLimits limits.now }
-    ensures opened { IfOk result (λ done. HasOpened (S.told shelf)) }
-    ensures runs { IfOk result
-        (λ done.
-        RunsLines true (Begins (S.told shelf)) (StraysOf (S.told shelf)) limits.now lines.now done.0.items
-        (S.told shelf) (S.told done.1) (Q.told places.old) (Q.told places.new)) }
-    ensures room { IfOk result (λ done. (T : State) (sources : Sources) → Begins (S.told shelf) T
-        → AreFedBy (Q.told places.old).files sources lines.now → IsSome (Q.told places.old).files
-        → NeedRoom Q.room sources T lines.now done.0.items) }
-    ensures err { IfErr result (λ e. IsSameBut (S.told shelf) (S.told e.1)
-        × IsStartFault (S.told shelf) (S.told e.1) e.0) }
+    script: &[Line],
+    left: &FillPlaces,
+    ran: Result<(Vec<Answer>, S), (Fault, S)>,
+    input: I,
+    out: O,
+    report: &mut R,
+) -> Ended<S, I, O>
+    ensures { (in_order : Bool) (seed versions : ℕ) (before : ShelfTold) (limits : LimitsOf)
+        (made : FilledPlaces) (places : PlacesTold) → script.now ≡ fill_lines versions
+        → AreGenerated seed versions (told_of made)
+        → IfOk ran (λ done. HasRun in_order before limits script.now (told_of made) (told_of left.now)
+        (Some 8388671) done.0.items (S.told done.1))
+        → IfErr ran (λ e. HasNotOpened before (told_of made) (told_of left.now) e.0 (S.told e.1))
+        → GoesOn (RunsFill in_order seed versions limits)
+        (world before places (I.told input) (O.told out) (R.told report.old))
+        (world (S.told result.shelf) places (I.told result.input) (O.told result.out) (R.told report.new))
+        result.answers.items result.fault result.status }
 {
-    let store = match K::start(alloc, shelf) {
-        Ok(store) => store,
-        Err(refused) => return Err(refused),
-    };
-    match script_plain(alloc, store, lines, places, limits) {
-        Err((_, store)) => Err((Fault::Memory, store.close())),
-        Ok(done) => {
-            let Done { store, answers } = done;
-            Ok((answers, store.close()))
+    match ran {
+        Err((fault, shelf)) => ended_early(alloc, fault, shelf, input, out, report),
+        Ok((answers, shelf)) => {
+            let mut out = out;
+            let fault = print_filled(script, answers.as_slice(), left, &mut out);
+            ended_with(shelf, answers, fault, input, out)
         }
     }
 }
@@ -99,14 +88,8 @@ pub(crate) fn run_fill<S: Shelf, K: ShelfStore<S>, I: Source, O: Sink, R: Sink>(
         Ok(made) => made,
         Err(Memory) => return ended_early(alloc, Fault::Memory, shelf, input, out, report),
     };
-    let (mut made, mut out) = (made, out);
+    let mut made = made;
     let script = lines.as_slice();
-    let (answers, shelf) = match run_over::<S, K, FillPlaces>(
-        alloc, script, limits, shelf, &mut made,
-    ) {
-        Ok(done) => done,
-        Err((fault, shelf)) => return ended_early(alloc, fault, shelf, input, out, report),
-    };
-    let fault = print_filled(script, answers.as_slice(), &made, &mut out);
-    ended_with(shelf, answers, fault, input, out)
+    let ran = run_over::<S, K, FillPlaces>(alloc, script, limits, shelf, &mut made);
+    ended_fill(alloc, script, &made, ran, input, out, report)
 }

@@ -1,17 +1,18 @@
 // A run of the program's words.
-ghost use Rattle.std.specs.Prelude.{true, map, string_bytes};
+ghost use Rattle.std.specs.Prelude.{true, ℕ, List, map, string_bytes};
 ghost use Rattle.store_model.specs.Run.{IsRun};
 ghost use Rattle.store_model.specs.Ranges.{AreLimits};
 ghost use Rattle.store_model.specs.World.{world};
 ghost use Rattle.command_runner.specs.Unbuilt.{Unbuilt};
-ghost use Rattle.command_runner.specs.Going.{BatchGoes};
+ghost use Rattle.command_runner.specs.Going.{BatchGoes, IsRead};
 ghost use Rattle.command_runner.specs.Completes.{IsCompleteRun};
 
 use crate::ending::{Ended, ended_early};
 use crate::filling::run_fill;
 use crate::migrating::run_migrate;
 use crate::one_line::{run_backup, run_delete, run_restore};
-use crate::scripts::run_lines;
+use crate::opened::run_over;
+use crate::scripts::ended_lines;
 use crate::showing::run_show;
 use crate::store::ShelfStore;
 use script_input::read_lines;
@@ -20,10 +21,12 @@ use std::alloc::Global;
 use vault_traits::{Places, Shelf, Sink, Source};
 use vault_types::{Command, Fault, Limits};
 
-// Runs the command that the words are.
-fn run_command<S: Shelf, K: ShelfStore<S>, P: Places, I: Source, O: Sink, R: Sink>(
+/// Runs a command as it was read from words. What ends the run before its first line is told on `report`: why the words
+/// are no command, `Usage` where it is one that is not built yet; the faults of reading a script; and those of opening the
+/// shelf. A line that is refused has its fault as its answer.
+pub fn run_command<S: Shelf, K: ShelfStore<S>, P: Places, I: Source, O: Sink, R: Sink>(
     alloc: Global,
-    words: &[String],
+    read: Result<Command, Fault>,
     limits: &Limits,
     shelf: S,
     places: &mut P,
@@ -31,14 +34,15 @@ fn run_command<S: Shelf, K: ShelfStore<S>, P: Places, I: Source, O: Sink, R: Sin
     out: O,
     report: &mut R,
 ) -> Ended<S, I, O>
-    requires { AreLimits limits.now }
-    ensures { IsRun true Unbuilt (map string_bytes words.now) limits.now
+    requires limits { AreLimits limits.now }
+    requires read { (words : List (List ℕ)) × IsRead words read }
+    ensures { (words : List (List ℕ)) → IsRead words read → IsRun true Unbuilt words limits.now
         (world (S.told shelf) (P.told places.old) (I.told input) (O.told out) (R.told report.old))
         (world (S.told result.shelf) (P.told places.new)
         (I.told result.input) (O.told result.out) (R.told report.new))
         result.answers.items result.fault result.status }
 {
-    match read_words(alloc, words) {
+    match read {
         Err(fault) => ended_early(alloc, fault, shelf, input, out, report),
         Ok(
             Command::Backup {
@@ -98,7 +102,7 @@ fn run_batch<S: Shelf, K: ShelfStore<S>, P: Places, I: Source, O: Sink, R: Sink>
     report: &mut R,
 ) -> Ended<S, I, O>
     requires { AreLimits limits.now }
-    ensures { BatchGoes limits.now
+    ensures { BatchGoes true limits.now
         (world (S.told shelf) (P.told places.old) (I.told input) (O.told out) (R.told report.old))
         (world (S.told result.shelf) (P.told places.new)
         (I.told result.input) (O.told result.out) (R.told report.new))
@@ -107,16 +111,10 @@ fn run_batch<S: Shelf, K: ShelfStore<S>, P: Places, I: Source, O: Sink, R: Sink>
     let mut input = input;
     match read_lines(alloc, &mut input, limits) {
         Err(fault) => ended_early(alloc, fault, shelf, input, out, report),
-        Ok(lines) => run_lines::<S, K, P, I, O, R>(
-            alloc,
-            lines.as_slice(),
-            limits,
-            shelf,
-            places,
-            input,
-            out,
-            report,
-        ),
+        Ok(lines) => {
+            let ran = run_over::<S, K, P>(alloc, lines.as_slice(), limits, shelf, places);
+            ended_lines(alloc, ran, input, out, report)
+        }
     }
 }
 
@@ -146,5 +144,6 @@ pub fn run_words<S: Shelf, K: ShelfStore<S>, P: Places, I: Source, O: Sink, R: S
         (I.told result.input) (O.told result.out) (R.told report.new))
         result.answers.items result.fault }
 {
-    run_command::<S, K, P, I, O, R>(alloc, words, limits, shelf, places, input, out, report)
+    let read = read_words(alloc, words);
+    run_command::<S, K, P, I, O, R>(alloc, read, limits, shelf, places, input, out, report)
 }

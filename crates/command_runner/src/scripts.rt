@@ -1,48 +1,41 @@
-// The lines of a script.
-ghost use Rattle.std.specs.Prelude.{true};
-ghost use Rattle.std.specs.List.{AllByRecursion};
-ghost use Rattle.store_model.specs.Outputs.{AreApartLines};
+// The end of a run whose lines have run.
+ghost use Rattle.std.specs.Prelude.{◌≡◌, ℕ, Bool, List, Option, IfOk, IfErr};
+ghost use Rattle.vault_types.specs.declared.Limits.{Limits as LimitsOf};
+ghost use Rattle.vault_types.specs.declared.Line.{Line as LineOf};
+ghost use Rattle.vault_traits.specs.Told.{PlacesTold, ShelfTold};
 ghost use Rattle.store_model.specs.Run.{RanLines};
-ghost use Rattle.store_model.specs.Ranges.{AreLimits, IsLineInRange};
 ghost use Rattle.store_model.specs.World.{world};
-ghost use Rattle.command_runner.specs.Going.{GoesOn};
+ghost use Rattle.command_runner.specs.Going.{GoesOn, HasRun, HasNotOpened};
 
-use crate::ending::{Ended, ended_early, ended_on_out};
-use crate::store::ShelfStore;
-use script_runner::{Done, script_plain};
+use crate::ending::{Ended, ended_early, ended_with};
+use report_printer::print_all;
 use std::alloc::Global;
-use vault_traits::{Places, Shelf, Sink, Source};
-use vault_types::{Fault, Limits, Line};
+use vault_traits::{Shelf, Sink, Source};
+use vault_types::{Answer, Fault};
 
-// Runs the lines over the places; the report is on `out`.
-pub(crate) fn run_lines<S: Shelf, K: ShelfStore<S>, P: Places, I: Source, O: Sink, R: Sink>(
+/// The end of a run of lines, which gave this; their report is on `out`. It takes no memory.
+pub fn ended_lines<S: Shelf, I: Source, O: Sink, R: Sink>(
     alloc: Global,
-    lines: &[Line],
-    limits: &Limits,
-    shelf: S,
-    places: &mut P,
+    ran: Result<(Vec<Answer>, S), (Fault, S)>,
     input: I,
     out: O,
     report: &mut R,
 ) -> Ended<S, I, O>
-    requires apart { AreApartLines lines.now }
-    requires ranges { AllByRecursion IsLineInRange lines.now }
-    requires limits { AreLimits limits.now }
-    ensures { GoesOn (RanLines true lines.now limits.now)
-        (world (S.told shelf) (P.told places.old) (I.told input) (O.told out) (R.told report.old))
-        (world (S.told result.shelf) (P.told places.new)
-        (I.told result.input) (O.told result.out) (R.told report.new))
+    ensures { (in_order : Bool) (before : ShelfTold) (limits : LimitsOf) (lines : List LineOf)
+        (p q : PlacesTold) (room : Option ℕ)
+        → IfOk ran (λ done. HasRun in_order before limits lines p q room done.0.items (S.told done.1))
+        → IfErr ran (λ e. HasNotOpened before p q e.0 (S.told e.1))
+        → GoesOn (RanLines in_order lines limits)
+        (world before p (I.told input) (O.told out) (R.told report.old))
+        (world (S.told result.shelf) q (I.told result.input) (O.told result.out) (R.told report.new))
         result.answers.items result.fault result.status }
 {
-    let store = match K::start(alloc, shelf) {
-        Ok(store) => store,
-        Err((fault, shelf)) => return ended_early(alloc, fault, shelf, input, out, report),
-    };
-    match script_plain(alloc, store, lines, places, limits) {
-        Err((_, store)) => ended_early(alloc, Fault::Memory, store.close(), input, out, report),
-        Ok(done) => {
-            let Done { store, answers } = done;
-            ended_on_out(store, answers, input, out)
+    match ran {
+        Err((fault, shelf)) => ended_early(alloc, fault, shelf, input, out, report),
+        Ok((answers, shelf)) => {
+            let mut out = out;
+            let fault = print_all(answers.as_slice(), &mut out);
+            ended_with(shelf, answers, fault, input, out)
         }
     }
 }

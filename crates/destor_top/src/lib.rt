@@ -3,6 +3,7 @@
 #![tactic(auto)]
 
 ghost use Rattle.std.specs.Prelude.{true, ◌≤◌, map, string_bytes};
+ghost use Rattle.store_model.specs.Ranges.{AreLimits};
 ghost use Rattle.store_model.specs.Run.{IsRun};
 ghost use Rattle.store_model.specs.World.{world};
 ghost use Rattle.command_runner.specs.Completes.{IsCompleteRun};
@@ -12,6 +13,10 @@ pub use command_runner::Ended;
 use command_runner::run_words;
 use keeper_store::KeeperStore;
 use std::alloc::Global;
+use std::sync::Wait;
+use std::thread::{Scope, Threads};
+use std::time::Clock;
+use threaded_runner::run_threaded;
 use vault_traits::{Places, Shelf, Sink, Source};
 use vault_types::Limits;
 
@@ -50,5 +55,48 @@ pub fn run_plain<S: Shelf, P: Places, I: Source + Send, O: Sink + Send, R: Sink>
 {
     run_words::<S, KeeperStore<S>, P, I, O, R>(
         alloc, words, limits, shelf, places, input, out, report,
+    )
+}
+
+/// Runs the command that the words are, as `run_plain` does, and with the same outcome; the streams of backups pass through
+/// stages in threads of the scope, by the command's settings `queue` and `lanes`. A stage whose thread is refused runs in
+/// this one.
+pub fn run<
+    's,
+    E: 's,
+    T: Threads + Wait + Clock + Copy + Drop + Send + 's,
+    S: Shelf,
+    P: Places,
+    I: Source + Drop + Send + 's,
+    O: Sink + Send,
+    R: Sink,
+>(
+    rt: T,
+    alloc: Global,
+    scope: &'s Scope<'s, E>,
+    words: &[String],
+    limits: &Limits,
+    shelf: S,
+    places: &mut P,
+    input: I,
+    out: O,
+    report: &mut R,
+) -> Ended<S, I, O>
+where
+    P::Reader: Drop + 's,
+    requires { AreLimits limits.now }
+    ensures run { IsRun true Unbuilt (map string_bytes words.now) limits.now
+        (world (S.told shelf) (P.told places.old) (I.told input) (O.told out) (R.told report.old))
+        (world (S.told result.shelf) (P.told places.new)
+        (I.told result.input) (O.told result.out) (R.told report.new))
+        result.answers.items result.fault result.status }
+    ensures complete { IsCompleteRun (map string_bytes words.now) limits.now
+        (world (S.told shelf) (P.told places.old) (I.told input) (O.told out) (R.told report.old))
+        (world (S.told result.shelf) (P.told places.new)
+        (I.told result.input) (O.told result.out) (R.told report.new))
+        result.answers.items result.fault }
+{
+    run_threaded(
+        rt, alloc, scope, words, limits, shelf, places, input, out, report,
     )
 }

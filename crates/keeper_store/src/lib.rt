@@ -35,6 +35,26 @@ impl<S: Shelf> Model for KeeperStore<S> {
     ghost invariant = { λ k. (k.keeper.job ≡ None) × (k.keeper.pins ≡ []) };
 }
 
+impl<S: Shelf> KeeperStore<S> {
+    ghost use Rattle.std.specs.Prelude.{◌≡◌, [], None};
+
+    /// A store of a keeper that has no job and no pin.
+    pub fn from_keeper(keeper: Keeper<S>) -> KeeperStore<S>
+        requires { (keeper.job ≡ None) × (keeper.pins ≡ []) }
+        ensures { result ≡ keeper }
+    {
+        KeeperStore { keeper }
+    }
+
+    /// The keeper, which has no job and no pin.
+    pub fn into_keeper(self) -> Keeper<S>
+        ensures keeper { result ≡ self }
+        ensures rest { (result.job ≡ None) × (result.pins ≡ []) }
+    {
+        self.keeper
+    }
+}
+
 impl<S: Shelf> StateKeeper for KeeperStore<S> {
     ghost use Rattle.keeper_core.specs.Keeping.{IsStateOf, IsKnownStray};
     ghost use Rattle.keeper_store.specs.Kept.{kept_of, known_of};

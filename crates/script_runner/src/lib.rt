@@ -4,5 +4,5 @@
 mod run;
 mod store;
 
-pub use run::{Done, script_plain};
+pub use run::{Done, delete_line, restore_line, script_plain, with_read_number};
 pub use store::LineStore;

@@ -25,8 +25,8 @@ pub struct Done<K: LineStore> {
     pub answers: Vec<Answer>,
 }
 
-// A fault of a source, with the number that the places give it.
-fn with_read_number(fault: Fault, number: u64) -> Fault
+/// A fault of a source, with the number that the places give it.
+pub fn with_read_number(fault: Fault, number: u64) -> Fault
     ensures { result ≡ read_numbered number fault }
 {
     match fault {
@@ -83,8 +83,8 @@ fn backup_line<K: LineStore, P: Places>(
     }
 }
 
-// A line that restores a version.
-fn restore_line<K: LineStore, P: Places>(
+/// A line that restores a version, over the place that it names.
+pub fn restore_line<K: LineStore, P: Places>(
     alloc: Global,
     store: &mut K,
     set: Set,
@@ -126,8 +126,8 @@ fn restore_line<K: LineStore, P: Places>(
     }
 }
 
-// A line that deletes versions.
-fn delete_line<K: LineStore, P: Places>(
+/// A line that deletes versions. It leaves the places.
+pub fn delete_line<K: LineStore, P: Places>(
     store: &mut K,
     set: Set,
     through: Version,

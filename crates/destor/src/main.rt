@@ -1,0 +1,44 @@
+//! Runs a command of the store, with the streams of backups in threads, over the folder that the first word names:
+//! `destor FOLDER WORD ..`.
+#![tactic(auto)]
+
+use destor_top::run;
+use folder_shelf::{ErrSink, FolderPlaces, FolderShelf, InSource, OutSink};
+use program_words::{refuse, words_of};
+use std::process::ExitCode;
+use std::thread;
+use vault_types::{Fault, Limits};
+
+fn main(rt: HostRuntime) -> ExitCode {
+    let (alloc, limits) = (rt.alloc(), Limits::standard());
+    let mut err = ErrSink::new(rt.stderr());
+    let words = match words_of(&rt) {
+        Ok(words) => words,
+        Err(fault) => return refuse(fault, &mut err),
+    };
+    let Some((folder, words)) = words.as_slice().split_first() else {
+        return refuse(Fault::Usage, &mut err);
+    };
+    let shelf = match FolderShelf::start(alloc, rt, folder.as_str()) {
+        Ok(shelf) => shelf,
+        Err(fault) => return refuse(fault, &mut err),
+    };
+    let status = thread::scope(thread::scope_env(), &rt, |scope| -> u8 {
+        let mut places = FolderPlaces::new(rt);
+        let mut err = ErrSink::new(rt.stderr());
+        run(
+            rt,
+            alloc,
+            scope,
+            words,
+            &limits,
+            shelf,
+            &mut places,
+            InSource::new(rt.stdin()),
+            OutSink::new(rt.stdout()),
+            &mut err,
+        )
+        .status
+    });
+    ExitCode::from(status)
+}

@@ -1,0 +1,60 @@
+// Opens the store and runs lines over places, with the streams of backups in threads.
+ghost use Rattle.std.specs.Prelude.{true, ◌≤◌, IfOk, IfErr};
+ghost use Rattle.std.specs.List.{AllByRecursion};
+ghost use Rattle.store_model.specs.Outputs.{AreApartLines};
+ghost use Rattle.store_model.specs.Ranges.{AreLimits, IsLineInRange};
+ghost use Rattle.command_runner.specs.Going.{HasRun, HasNotOpened};
+
+use command_runner::ShelfStore;
+use keeper_store::KeeperStore;
+use pipe_backup::Course;
+use piped_script::script_piped;
+use script_runner::Done;
+use std::alloc::Global;
+use std::sync::Wait;
+use std::thread::{Scope, Threads};
+use std::time::Clock;
+use vault_traits::{Places, Shelf};
+use vault_types::{Answer, Fault, Limits, Line};
+
+// Opens the store, runs the lines over the places, and gives their answers and the shelf.
+pub(crate) fn run_over<
+    's,
+    E: 's,
+    T: Threads + Wait + Clock + Copy + Drop + Send + 's,
+    S: Shelf,
+    P: Places,
+>(
+    rt: T,
+    alloc: Global,
+    scope: &'s Scope<'s, E>,
+    lines: &[Line],
+    course: Course,
+    limits: &Limits,
+    shelf: S,
+    places: &mut P,
+) -> Result<(Vec<Answer>, S), (Fault, S)>
+where
+    P::Reader: Drop + 's,
+    requires apart { AreApartLines lines.now }
+    requires ranges { AllByRecursion IsLineInRange lines.now }
+    requires limits { AreLimits limits.now }
+    requires queue { 1 ≤ course.queue }
+    requires lanes { (1 ≤ course.lanes) × (course.lanes ≤ 8) }
+    ensures ok { IfOk result (λ done. HasRun true (S.told shelf) limits.now lines.now (P.told places.old)
+        (P.told places.new) P.room done.0.items (S.told done.1)) }
+    ensures err { IfErr result (λ e. HasNotOpened (S.told shelf) (P.told places.old) (P.told places.new)
+        e.0 (S.told e.1)) }
+{
+    let store = match KeeperStore::start(alloc, shelf) {
+        Ok(store) => store,
+        Err(refused) => return Err(refused),
+    };
+    match script_piped(rt, alloc, scope, store, lines, places, limits, course) {
+        Err((_, store)) => Err((Fault::Memory, store.close())),
+        Ok(done) => {
+            let Done { store, answers } = done;
+            Ok((answers, store.close()))
+        }
+    }
+}

@@ -1,0 +1,225 @@
+// A run of the program's words.
+ghost use Rattle.std.specs.Prelude.{true, ◌≡◌, ◌≤◌, map, string_bytes};
+ghost use Rattle.store_model.specs.Run.{IsRun};
+ghost use Rattle.store_model.specs.Ranges.{AreLimits};
+ghost use Rattle.store_model.specs.World.{world};
+ghost use Rattle.command_runner.specs.Unbuilt.{Unbuilt};
+ghost use Rattle.command_runner.specs.Going.{BatchGoes};
+ghost use Rattle.command_runner.specs.Completes.{IsCompleteRun};
+
+use crate::backing::run_backup;
+use crate::filling::run_fill;
+use crate::opened::run_over;
+use command_runner::{Ended, ended_early, ended_lines, run_command};
+use keeper_store::KeeperStore;
+use pipe_backup::Course;
+use pipe_run::StackSizes;
+use script_input::read_lines;
+use script_words::read_words;
+use std::alloc::Global;
+use std::sync::Wait;
+use std::thread::{Scope, Threads};
+use std::time::Clock;
+use vault_traits::{Places, Shelf, Sink, Source};
+use vault_types::{Command, Limits};
+
+// The course of a backup with so much room in its lines, and so many lanes.
+fn course_of(queue: u32, lanes: u32) -> Course
+    ensures queue { result.queue ≡ queue }
+    ensures lanes { result.lanes ≡ lanes }
+{
+    Course {
+        queue,
+        lanes,
+        stacks: StackSizes::usual(),
+    }
+}
+
+// Reads the script from the input, and runs its lines.
+fn run_batch<
+    's,
+    E: 's,
+    T: Threads + Wait + Clock + Copy + Drop + Send + 's,
+    S: Shelf,
+    P: Places,
+    I: Source,
+    O: Sink,
+    R: Sink,
+>(
+    rt: T,
+    alloc: Global,
+    scope: &'s Scope<'s, E>,
+    course: Course,
+    limits: &Limits,
+    shelf: S,
+    places: &mut P,
+    input: I,
+    out: O,
+    report: &mut R,
+) -> Ended<S, I, O>
+where
+    P::Reader: Drop + 's,
+    requires limits { AreLimits limits.now }
+    requires queue { 1 ≤ course.queue }
+    requires lanes { (1 ≤ course.lanes) × (course.lanes ≤ 8) }
+    ensures { BatchGoes true limits.now
+        (world (S.told shelf) (P.told places.old) (I.told input) (O.told out) (R.told report.old))
+        (world (S.told result.shelf) (P.told places.new)
+        (I.told result.input) (O.told result.out) (R.told report.new))
+        result.answers.items result.fault result.status }
+{
+    let mut input = input;
+    match read_lines(alloc, &mut input, limits) {
+        Err(fault) => ended_early(alloc, fault, shelf, input, out, report),
+        Ok(lines) => {
+            let ran = run_over(
+                rt,
+                alloc,
+                scope,
+                lines.as_slice(),
+                course,
+                limits,
+                shelf,
+                places,
+            );
+            ended_lines(alloc, ran, input, out, report)
+        }
+    }
+}
+
+// Runs the command that the words are.
+fn run_words<
+    's,
+    E: 's,
+    T: Threads + Wait + Clock + Copy + Drop + Send + 's,
+    S: Shelf,
+    P: Places,
+    I: Source + Drop + Send + 's,
+    O: Sink,
+    R: Sink,
+>(
+    rt: T,
+    alloc: Global,
+    scope: &'s Scope<'s, E>,
+    words: &[String],
+    limits: &Limits,
+    shelf: S,
+    places: &mut P,
+    input: I,
+    out: O,
+    report: &mut R,
+) -> Ended<S, I, O>
+where
+    P::Reader: Drop + 's,
+    requires { AreLimits limits.now }
+    ensures { IsRun true Unbuilt (map string_bytes words.now) limits.now
+        (world (S.told shelf) (P.told places.old) (I.told input) (O.told out) (R.told report.old))
+        (world (S.told result.shelf) (P.told places.new)
+        (I.told result.input) (O.told result.out) (R.told report.new))
+        result.answers.items result.fault result.status }
+{
+    match read_words(alloc, words) {
+        Ok(
+            Command::Backup {
+                set,
+                config,
+                queue,
+                lanes,
+                sample: None,
+            },
+        ) => run_backup(
+            rt,
+            alloc,
+            scope,
+            set,
+            &config,
+            course_of(queue, lanes),
+            limits,
+            shelf,
+            input,
+            out,
+            report,
+        ),
+        Ok(Command::Batch { queue, lanes, .. }) => run_batch(
+            rt,
+            alloc,
+            scope,
+            course_of(queue, lanes),
+            limits,
+            shelf,
+            places,
+            input,
+            out,
+            report,
+        ),
+        Ok(
+            Command::Fill {
+                seed,
+                versions,
+                queue,
+                lanes,
+                ..
+            },
+        ) => run_fill(
+            rt,
+            alloc,
+            scope,
+            seed,
+            versions,
+            course_of(queue, lanes),
+            limits,
+            shelf,
+            input,
+            out,
+            report,
+        ),
+        read => run_command::<S, KeeperStore<S>, P, I, O, R>(
+            alloc, read, limits, shelf, places, input, out, report,
+        ),
+    }
+}
+
+/// Runs the command that the words are; the streams of backups pass through stages in threads of the scope, a stage whose
+/// thread is refused in this one. What ends the run before its first line is told on `report`: `Usage` where the words are
+/// no command, or one that is not built yet; the faults of reading a script; and those of opening the shelf. A line that is
+/// refused has its fault as its answer. The report is on `out`, and on `report` where `out` gets a version; one that could
+/// not be written is a `WriteFault`, and what was done stands.
+pub fn run_threaded<
+    's,
+    E: 's,
+    T: Threads + Wait + Clock + Copy + Drop + Send + 's,
+    S: Shelf,
+    P: Places,
+    I: Source + Drop + Send + 's,
+    O: Sink,
+    R: Sink,
+>(
+    rt: T,
+    alloc: Global,
+    scope: &'s Scope<'s, E>,
+    words: &[String],
+    limits: &Limits,
+    shelf: S,
+    places: &mut P,
+    input: I,
+    out: O,
+    report: &mut R,
+) -> Ended<S, I, O>
+where
+    P::Reader: Drop + 's,
+    requires { AreLimits limits.now }
+    ensures run { IsRun true Unbuilt (map string_bytes words.now) limits.now
+        (world (S.told shelf) (P.told places.old) (I.told input) (O.told out) (R.told report.old))
+        (world (S.told result.shelf) (P.told places.new)
+        (I.told result.input) (O.told result.out) (R.told report.new))
+        result.answers.items result.fault result.status }
+    ensures complete { IsCompleteRun (map string_bytes words.now) limits.now
+        (world (S.told shelf) (P.told places.old) (I.told input) (O.told out) (R.told report.old))
+        (world (S.told result.shelf) (P.told places.new)
+        (I.told result.input) (O.told result.out) (R.told report.new))
+        result.answers.items result.fault }
+{
+    run_words(
+        rt, alloc, scope, words, limits, shelf, places, input, out, report,
+    )
+}

@@ -3,7 +3,8 @@
 //!
 //! `bench cut < FILE`, `find`, `decide`, `growth`, `plan` and `recipe < FILE` time single stages. `items` sends numbers from
 //! one thread to another, `wait` has two stages wait for one second, `carry` carries numbers through two stages and tells how
-//! many came. `keeper VERSIONS` makes a store of so many versions of 1,000 chunks, opens it, backs up a version of ten new
+//! many came. `job LANES QUEUE < FILE` runs a backup's job whose parts are thrown away, in one thread where LANES is 0.
+//! `keeper VERSIONS` makes a store of so many versions of 1,000 chunks, opens it, backs up a version of ten new
 //! containers, and deletes the first version, with which ten containers go; each other version has a container of its own.
 //! Without a word it carries numbers, and does with three versions what `keeper` does, and prints what is left.
 #![tactic(auto)]
@@ -12,6 +13,7 @@ mod cut;
 mod decide;
 mod find;
 mod items;
+mod job;
 mod made;
 mod plan;
 mod recipe;
@@ -59,6 +61,12 @@ fn run<R: Threads + Wait + Clock + Copy + Drop + Send + Sync>(
         "items" => items::run(&rt, host),
         "wait" => wait(rt, host),
         "carry" => carry(rt, host),
+        "job" => job::run(
+            rt,
+            host,
+            word(words.as_slice(), 1),
+            word(words.as_slice(), 2),
+        ),
         other => time_stage(host, other, word(words.as_slice(), 1)),
     }
 }

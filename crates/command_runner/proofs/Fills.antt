@@ -1,5 +1,5 @@
 -- What `fill` prints, and what it runs.
-use Rattle.std.specs.Prelude.{true, min, IsSome}
+use Rattle.std.specs.Prelude.{Bool, min, IsSome}
 use Rattle.std.proofs.Common.{◌≡◌, ◌≤◌, ◌<◌, ◌+◌, ◌-◌, ℕ, zero, suc, List, [], ◌∷◌, ◌++◌, length, length-drop, drop, get_or, Option, Some, None, refl, sym, ap, subst, arith, ◌∙◌, append_assoc, add-one}
 use Rattle.std.proofs.Math.Seq.{drop-cons}
 use Rattle.std.proofs.lemmas.List.{append-nil}

@@ -1,6 +1,6 @@
 -- A run that ends where the shelf is opened.
 use Rattle.std.proofs.Common.{◌≡◌, inl, inr, ℕ, List, [], ◌∷◌, Option, Some, sym, ap, subst, ◌∙◌}
-use Rattle.std.specs.Prelude.{IsSomeAnd}
+use Rattle.std.specs.Prelude.{IsSomeAnd, Result, Ok, Err, IfOk, IfErr}
 use Rattle.vault_types.specs.declared.Fault.{Fault}
 use Rattle.vault_types.specs.declared.Answer.{Answer}
 use Rattle.vault_traits.specs.Told.{SinkTold}
@@ -8,6 +8,13 @@ use Rattle.store_model.specs.World.{World, status_after, report_text, IsPrinted,
 use Rattle.store_model.specs.Early.{HasOpened, IsSameBut, IsStartFault}
 use Rattle.store_model.specs.Run.{EndsAtOpening}
 use Rattle.command_runner.specs.Going.{GoesOn}
+
+-- what is known of a result's parts, at those that it has
+pub if_ok : {A B : Type 0} (P : A → Type 0) (r : Result A B) (a : A) → r ≡ Ok a → IfOk r P → P a
+if_ok {A} {B} P r a is h = subst (λ (x : Result A B). IfOk x P) is h
+
+pub if_err : {A B : Type 0} (P : B → Type 0) (r : Result A B) (e : B) → r ≡ Err e → IfErr r P → P e
+if_err {A} {B} P r e is h = subst (λ (x : Result A B). IfErr x P) is h
 
 pub not_opened : (Runs : World → World → List Answer → Option Fault → Type 0) (before now : World) (answers : List Answer) (f : Option Fault) (g : Fault) (status : ℕ) → IsSameBut before.shelf now.shelf × IsStartFault before.shelf now.shelf g
     → f ≡ Some g → answers ≡ [] → now.places ≡ before.places → now.input ≡ before.input → now.out ≡ before.out → IsTold g before.report now.report → status ≡ status_after [] (Some g) → GoesOn Runs before now answers f status

@@ -1,17 +1,19 @@
 -- What a command's run is as a run of the words.
-use Rattle.std.specs.Prelude.{Bool, IsSomeAnd}
+use Rattle.std.specs.Prelude.{Bool, ◌+◌, IsSomeAnd, IfSome}
 use Rattle.std.proofs.Common.{◌≡◌, ◌⊎◌, inl, inr, ⊎_elim, ℕ, List, [], Option, Some, None, refl, sym, ap, subst, arith, ◌∙◌}
 use Rattle.vault_types.specs.declared.Limits.{Limits}
 use Rattle.vault_types.specs.declared.Command.{Command}
 use Rattle.vault_types.specs.declared.Command.TheVariants as command
 use Rattle.vault_types.specs.declared.Fault.{Fault}
 use Rattle.vault_types.specs.declared.Fault.TheVariants as fault
+use Rattle.vault_types.specs.declared.Line.{Line}
 use Rattle.vault_types.specs.declared.Answer.{Answer}
 use Rattle.vault_types.specs.Words.{command_of}
-use Rattle.vault_traits.specs.Told.{ShelfTold}
+use Rattle.vault_traits.specs.Told.{ShelfTold, SourceTold}
+use Rattle.store_model.specs.Calls.{GivesAtMost}
 use Rattle.store_model.specs.World.{World, status_after, IsTold}
-use Rattle.store_model.specs.Early.{CanOpen, EndsEarly, IsBatch, IsEarly, IsSameBut, IsScriptFault, LeavesShelfAlone}
-use Rattle.store_model.specs.Run.{EndsAtOpening, IsRun, Runs, RunsOpened}
+use Rattle.store_model.specs.Early.{CanOpen, EndsEarly, IsBatch, IsEarly, IsSameBut, IsScript, IsScriptFault, LeavesShelfAlone}
+use Rattle.store_model.specs.Run.{EndsAtOpening, IsRun, RanLines, Runs, RunsOpened, with_input}
 use Rattle.run_laws.proofs.Openings.{ends, batch_run}
 use Rattle.command_runner.specs.Unbuilt.{IsUnbuilt, Unbuilt}
 use Rattle.command_runner.specs.Going.{BatchGoes, GoesOn, RefusesScript}
@@ -103,3 +105,11 @@ module _ (in_order : Bool) (words : List (List ℕ)) (limits : Limits) (before n
   unbuilt c f status is to usage none shelf places input out line stat = as_run c f status is
       (stat ∙ ap (λ (l : List Answer). status_after l (Some fault.Usage)) (sym none) ∙ ap (λ (o : Option Fault). status_after answers o) (sym usage))
       (inr (to (record { usage = usage; none = none; shelf = shelf; places = places; input = input; out = out; line = line })))
+
+-- lines that were read ran
+pub read_batch : (in_order : Bool) (limits : Limits) (before now : World) (input : SourceTold) (answers : List Answer) (f : Option Fault) (status : ℕ) (lines : List Line) → IsScript limits before.input lines → IfSome input.left (λ rest. rest ≡ [])
+    → GivesAtMost (limits.script + 1) before.input input → GoesOn (RanLines in_order lines limits) (with_input before input) now answers f status → BatchGoes in_order limits before now answers f status
+read_batch in_order limits before now input answers f status lines script read within goes = record {
+  course = inr (record { input = input; lines = lines; script = script; read = read; within = within; goes = goes.course });
+  status_is = goes.status_is;
+}

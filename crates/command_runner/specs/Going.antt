@@ -1,14 +1,11 @@
--- Words as they were read; a run from the opening of the shelf on, and that of a script.
-use Rattle.std.specs.Prelude.{Bool, ◌≡◌, ◌⊎◌, ◌+◌, ℕ, List, [], Option, Some, None, IsSome, IsSomeAnd, IfSome, Result, Ok, Err}
+-- A run from the opening of the shelf on, and that of a script.
+use Rattle.std.specs.Prelude.{Bool, ◌≡◌, ◌⊎◌, ◌+◌, ℕ, List, [], Option, IsSome, IsSomeAnd, IfSome}
 use Rattle.vault_types.specs.declared.Limits.{Limits}
 use Rattle.vault_types.specs.declared.Line.{Line}
-use Rattle.vault_types.specs.declared.Command.{Command}
 use Rattle.vault_types.specs.declared.Fault.{Fault}
-use Rattle.vault_types.specs.declared.Fault.TheVariants as fault
 use Rattle.vault_types.specs.declared.Answer.{Answer}
 use Rattle.vault_types.specs.Script.{Sources}
 use Rattle.vault_types.specs.State.{State}
-use Rattle.vault_types.specs.Words.{command_of}
 use Rattle.vault_traits.specs.Told.{PlacesTold, ShelfTold, SourceTold}
 use Rattle.store_model.specs.Calls.{GivesAtMost}
 use Rattle.store_model.specs.Leaves.{Begins}
@@ -19,11 +16,6 @@ use Rattle.store_model.specs.Strays.{StraysOf}
 use Rattle.store_model.specs.World.{World, status_after, IsTold}
 use Rattle.store_model.specs.Early.{HasOpened, IsSameBut, IsScript, IsScriptFault, IsStartFault}
 use Rattle.store_model.specs.Run.{EndsAtOpening, RanLines, RunsOpened, with_input}
-
--- what comes of reading words: their command; or they are none, or there was no memory
-abbrev pub IsRead : List (List ℕ) → Result Command Fault → Type 0
-IsRead words (Ok c) = command_of words ≡ Some c
-IsRead words (Err f) = (f ≡ fault.Memory) ⊎ ((f ≡ fault.Usage) × (command_of words ≡ None))
 
 -- it ends where the shelf is opened, or the shelf opens and it runs as told; and its status
 pub record GoesOn (Runs : World → World → List Answer → Option Fault → Type 0) (before now : World)

@@ -2,7 +2,8 @@
 //! after another.
 #![tactic(auto)]
 
-mod lines;
+mod backing;
 mod run;
 
+pub use backing::back_up_piped;
 pub use run::script_piped;

@@ -12,7 +12,7 @@ ghost use Rattle.store_model.specs.Ranges.{IsLineInRange, AreLimits};
 ghost use Rattle.keeper_catalog.specs.View.{View};
 ghost use Rattle.keeper_core.specs.Keeping.{IsStateOf, IsKnownStray};
 
-use crate::lines::backup_line;
+use crate::backing::backup_line;
 use keeper_store::KeeperStore;
 use pipe_backup::Course;
 use script_runner::{Done, delete_line, restore_line};

@@ -1,7 +1,6 @@
 // The answers of first backups, over sources, shelves and sinks of which some fail.
-use crate::running::{
-    BACKUP, PAYLOAD, RECIPE, STANDARD, Seen, TEXT, blob_len, holds, run_on, run_with,
-};
+use crate::running::{Seen, blob_len, holds, run_on, run_with};
+use program_rows::{BACKUP, PAYLOAD, RECIPE, STANDARD, TEXT};
 use std::alloc::Global;
 use std::test::Fail;
 use vault_ports::{FaultShelf, FaultSource, MemPlaces, MemShelf, MemSource};

@@ -1,7 +1,6 @@
 // A first backup over a shelf that stops at a call, and what a crash then leaves.
-use crate::running::{
-    BACKUP, FLOOR, PAYLOAD, RECIPE, STANDARD, TABLE, TEXT, blob_len, holds, run_on,
-};
+use crate::running::{blob_len, holds, run_on};
+use program_rows::{BACKUP, FLOOR, PAYLOAD, RECIPE, STANDARD, TABLE, TEXT};
 use std::alloc::Global;
 use std::test::Fail;
 use vault_ports::{CrashShelf, MemShelf};

@@ -1,10 +1,8 @@
 // Stores of which blobs are damaged: a run ends with the first damage, and leaves them.
 use crate::formats;
 use crate::formats::{bytes_of, store_with};
-use crate::running::{
-    BACKUP, FIRST, QUIET, RECIPE, Row, STANDARD, TEXT, as_said, holds, row_is, rows_are, run_on,
-    same_blobs,
-};
+use crate::running::{as_said, holds, row_is, rows_are, run_on, same_blobs};
+use program_rows::{BACKUP, FIRST, QUIET, RECIPE, STANDARD, TEXT, Row};
 use std::alloc::Global;
 use std::test::Fail;
 use vault_ports::MemShelf;

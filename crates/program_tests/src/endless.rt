@@ -1,7 +1,8 @@
 // Sources that never end: what is read of them has a bound.
 ghost use Rattle.std.specs.Prelude.{None};
 
-use crate::running::{BACKUP, QUIET, Row, as_said, run_with};
+use crate::running::{as_said, run_with};
+use program_rows::{BACKUP, QUIET, Row};
 use std::alloc::Global;
 use std::test::Fail;
 use vault_ports::{MemPlaces, MemShelf};

@@ -1,70 +1,12 @@
 // Runs of the program's call over devices in memory, and rows that say what a run gives.
 use destor_top::{Ended, run_plain};
+use program_rows::Row;
 use std::alloc::Global;
 use std::str::from_utf8;
 use std::test::Fail;
 use vault_ports::{MemPlaces, MemShelf, MemSink, MemSource};
 use vault_traits::{Places, Shelf, Source};
-use vault_types::{Answer, Fault, Kind, Limits, Name};
-
-/// A run: its words, its input, and what it should end with and print.
-#[derive(Clone, Copy)]
-pub struct Row {
-    pub words: &'static str,
-    pub input: &'static [u8],
-    pub status: u8,
-    pub fault: Option<Fault>,
-    pub out: &'static [u8],
-    pub report: &'static [u8],
-}
-
-/// A run that reads nothing, prints nothing and ends well.
-pub const QUIET: Row = Row {
-    words: "",
-    input: b"",
-    status: 0,
-    fault: None,
-    out: b"",
-    report: b"",
-};
-
-pub const BACKUP: &str = "backup --chunk fixed --size 4";
-
-pub const TEXT: &[u8] = b"abcdabcdab";
-
-/// The first backup of the text.
-pub const FIRST: Row = Row {
-    words: BACKUP,
-    input: TEXT,
-    out: b"backup 1: 3 chunks, 10 bytes, 1 new containers, 6 bytes written, 0 sparse\n",
-    ..QUIET
-};
-
-pub const STANDARD: Limits = Limits {
-    chunks: 4_194_304,
-    last: 4_294_967_294,
-    script: 1_048_576,
-};
-
-pub const TABLE: Name = Name {
-    kind: Kind::Table,
-    number: 1,
-};
-
-pub const PAYLOAD: Name = Name {
-    kind: Kind::Payload,
-    number: 1,
-};
-
-pub const RECIPE: Name = Name {
-    kind: Kind::Recipe,
-    number: 1,
-};
-
-pub const FLOOR: Name = Name {
-    kind: Kind::Floor,
-    number: 0,
-};
+use vault_types::{Answer, Fault, Limits, Name};
 
 /// What a run gave.
 #[derive(Drop)]

@@ -1,6 +1,7 @@
 // Deletions over a shelf that an earlier run left unsettled, and a crash behind them.
 use crate::recorded::Recorded;
-use crate::running::{BACKUP, QUIET, Row, STANDARD, as_said, rows_are, run_on, run_with};
+use crate::running::{as_said, rows_are, run_on, run_with};
+use program_rows::{BACKUP, QUIET, STANDARD, Row};
 use std::alloc::Global;
 use std::test::Fail;
 use vault_ports::{MemPlaces, MemShelf, MemSource};

@@ -4,5 +4,5 @@
 mod run;
 mod store;
 
-pub use run::{Done, delete_line, restore_line, script_plain, with_read_number};
+pub use run::{Done, close_backup, delete_line, open_backup, restore_line, script_plain};
 pub use store::LineStore;

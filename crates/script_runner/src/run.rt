@@ -4,13 +4,16 @@ ghost use Rattle.std.specs.List.{AllByRecursion};
 ghost use Rattle.vault_types.specs.Events.{Change};
 ghost use Rattle.vault_types.specs.Script.{Sources};
 ghost use Rattle.vault_types.specs.State.{State};
+ghost use Rattle.vault_types.specs.declared.JobConfig.{JobConfig as JobConfigNow};
 ghost use Rattle.vault_types.specs.declared.Line.TheVariants as line;
 ghost use Rattle.vault_types.specs.JobRanges.{IsInRange};
+ghost use Rattle.store_model.specs.Calls.{backup_answer};
 ghost use Rattle.store_model.specs.Outputs.{AreApartLines, AreFedBy};
 ghost use Rattle.store_model.specs.Room.{NeedsRoom, NeedRoom};
 ghost use Rattle.store_model.specs.Script.{RunsLines};
 ghost use Rattle.store_model.specs.Steps.{StepsLine, read_numbered, write_numbered};
 ghost use Rattle.store_model.specs.Ranges.{IsLineInRange, AreLimits};
+ghost use Rattle.script_runner.specs.Sources.{HasOpenedSource, HasClosedSource};
 
 use crate::store::LineStore;
 use std::alloc::Global;
@@ -25,8 +28,8 @@ pub struct Done<K: LineStore> {
     pub answers: Vec<Answer>,
 }
 
-/// A fault of a source, with the number that the places give it.
-pub fn with_read_number(fault: Fault, number: u64) -> Fault
+// A fault of a source, with the number that the places give it.
+fn with_read_number(fault: Fault, number: u64) -> Fault
     ensures { result ≡ read_numbered number fault }
 {
     match fault {
@@ -42,6 +45,52 @@ fn with_write_number(fault: Fault, number: u64) -> Fault
     match fault {
         Fault::WriteFault(_) => Fault::WriteFault(number),
         other => other,
+    }
+}
+
+/// Opens the source of a line that backs it up; or the answer, where the set is full or the source could not be opened.
+pub fn open_backup<K: LineStore, P: Places>(
+    alloc: Global,
+    store: &K,
+    set: Set,
+    name: &Text,
+    places: &mut P,
+    limits: &Limits,
+) -> Result<P::Reader, Answer>
+    ensures opened { IfOk result (λ r. HasOpenedSource (P.told places.old) (P.told places.new) name.now
+        (P.Reader.told r)) }
+    ensures refused { IfErr result (λ answer. (config : JobConfigNow)
+        → StepsLine K.shelf K.keeps K.strays limits.now
+        (record { keeper = store.now; places = P.told places.old }) (line.Backup set name.now config) answer
+        (record { keeper = store.now; places = P.told places.new })) }
+{
+    if store.full(set, limits) {
+        return Err(Answer::Refused(Fault::Full {
+            set,
+            latest: store.latest(set),
+            next: store.next_id(),
+        }));
+    }
+    match places.open_source(alloc, name.as_str()) {
+        Err(Refused::Failed) => Err(Answer::Refused(Fault::PlaceFault(places.faults()))),
+        Err(Refused::Memory) => Err(Answer::Refused(Fault::Memory)),
+        Ok(source) => Ok(source),
+    }
+}
+
+/// Closes the source of a backup that gave this: what its line answers.
+pub fn close_backup<P: Places>(
+    places: &mut P,
+    source: P::Reader,
+    outcome: Result<Answer, Fault>,
+) -> Answer
+    ensures closed { HasClosedSource (P.told places.old) (P.told places.new) (P.Reader.told source) }
+    ensures answer { result ≡ backup_answer (P.told places.new).read_faults outcome }
+{
+    places.close_source(source);
+    match outcome {
+        Ok(answer) => answer,
+        Err(fault) => Answer::Refused(with_read_number(fault, places.read_faults())),
     }
 }
 
@@ -62,23 +111,12 @@ fn backup_line<K: LineStore, P: Places>(
         (line.Backup set name.now config.now) result
         (record { keeper = store.new; places = P.told places.new }) }
 {
-    if store.full(set, limits) {
-        return Answer::Refused(Fault::Full {
-            set,
-            latest: store.latest(set),
-            next: store.next_id(),
-        });
-    }
-    match places.open_source(alloc, name.as_str()) {
-        Err(Refused::Failed) => Answer::Refused(Fault::PlaceFault(places.faults())),
-        Err(Refused::Memory) => Answer::Refused(Fault::Memory),
-        Ok(mut source) => {
-            let result = store.back_up(alloc, set, &mut source, config, limits);
-            places.close_source(source);
-            match result {
-                Ok(answer) => answer,
-                Err(fault) => Answer::Refused(with_read_number(fault, places.read_faults())),
-            }
+    match open_backup(alloc, &*store, set, name, places, limits) {
+        Err(answer) => answer,
+        Ok(source) => {
+            let mut source = source;
+            let outcome = store.back_up(alloc, set, &mut source, config, limits);
+            close_backup(places, source, outcome)
         }
     }
 }

@@ -9,7 +9,8 @@ ghost use Rattle.command_runner.specs.Going.{GoesOn};
 
 use command_runner::{Ended, answer_from, ended_early, ended_on_out, one_answer, open_for_one};
 use keeper_store::KeeperStore;
-use pipe_backup::{Course, backup_line_piped};
+use pipe_backup::Course;
+use piped_script::back_up_piped;
 use std::alloc::Global;
 use std::sync::Wait;
 use std::thread::{Scope, Threads};
@@ -52,18 +53,8 @@ pub(crate) fn run_backup<
         Ok(opened) => opened,
         Err((fault, shelf)) => return ended_early(alloc, fault, shelf, input, out, report),
     };
-    let mut keeper = store.into_keeper();
-    let (input, result) = backup_line_piped(
-        rt,
-        alloc,
-        scope,
-        &mut keeper,
-        set,
-        input,
-        config,
-        limits,
-        course,
+    let (store, input, outcome) = back_up_piped(
+        rt, alloc, scope, store, set, input, config, limits, course,
     );
-    let store = KeeperStore::from_keeper(keeper);
-    ended_on_out(store, one_answer(room, answer_from(result)), input, out)
+    ended_on_out(store, one_answer(room, answer_from(outcome)), input, out)
 }

@@ -21,7 +21,7 @@ use std::sync::Wait;
 use std::thread::{Scope, Threads};
 use std::time::Clock;
 use vault_traits::{Places, Shelf, Sink, Source};
-use vault_types::{Command, Limits};
+use vault_types::{Command, Fault, Limits};
 
 // The course of a backup with so much room in its lines, and so many lanes.
 fn course_of(queue: u32, lanes: u32) -> Course
@@ -118,29 +118,34 @@ where
         (I.told result.input) (O.told result.out) (R.told report.new))
         result.answers.items result.fault result.status }
 {
-    match read_words(alloc, words) {
-        Ok(
-            Command::Backup {
-                set,
-                config,
-                queue,
-                lanes,
-                sample: None,
-            },
-        ) => run_backup(
-            rt,
-            alloc,
-            scope,
+    let command = match read_words(alloc, words) {
+        Err(fault) => return ended_early(alloc, fault, shelf, input, out, report),
+        Ok(command) => command,
+    };
+    match command {
+        Command::Backup {
             set,
-            &config,
-            course_of(queue, lanes),
-            limits,
-            shelf,
-            input,
-            out,
-            report,
-        ),
-        Ok(Command::Batch { queue, lanes, .. }) => run_batch(
+            config,
+            queue,
+            lanes,
+            sample,
+        } => match sample {
+            None => run_backup(
+                rt,
+                alloc,
+                scope,
+                set,
+                &config,
+                course_of(queue, lanes),
+                limits,
+                shelf,
+                input,
+                out,
+                report,
+            ),
+            Some(_) => ended_early(alloc, Fault::Usage, shelf, input, out, report),
+        },
+        Command::Batch { queue, lanes, .. } => run_batch(
             rt,
             alloc,
             scope,
@@ -152,15 +157,13 @@ where
             out,
             report,
         ),
-        Ok(
-            Command::Fill {
-                seed,
-                versions,
-                queue,
-                lanes,
-                ..
-            },
-        ) => run_fill(
+        Command::Fill {
+            seed,
+            versions,
+            queue,
+            lanes,
+            ..
+        } => run_fill(
             rt,
             alloc,
             scope,
@@ -173,8 +176,8 @@ where
             out,
             report,
         ),
-        read => run_command::<S, KeeperStore<S>, P, I, O, R>(
-            alloc, read, limits, shelf, places, input, out, report,
+        command => run_command::<S, KeeperStore<S>, P, I, O, R>(
+            alloc, command, limits, shelf, places, input, out, report,
         ),
     }
 }

@@ -5,7 +5,6 @@ use Rattle.vault_types.specs.declared.Line.{Line}
 use Rattle.store_model.specs.Outputs.{AreApartLines}
 use Rattle.store_model.specs.Ranges.{IsLineInRange}
 use Rattle.word_ranges.proofs.Fills.{fill_in_range, fill_apart}
-use Rattle.workload.specs.Places.{FilledPlaces}
 use Rattle.command_runner.proofs.filling.run_fill.Goals as goal
 
 pub run_over-ran-requires-clause-apart : goal.run_over-ran-requires-clause-apart

@@ -7,6 +7,6 @@ use Rattle.command_runner.proofs.run.run_words.Goals as goal
 pub returns-clause-complete : goal.returns-clause-complete
 returns-clause-complete g c =
     let before : World = world (g.S.Shelf.told c.args.shelf) (g.P.Places.told c.args.places.now) (g.I.Source.told c.args.input) (g.O.Sink.told c.args.out) (g.R.Sink.told c.args.report.now) in
-    let r = c.run_command.result in
-    let now : World = world (g.S.Shelf.told r.shelf) (g.P.Places.told c.run_command.new.places) (g.I.Source.told r.input) (g.O.Sink.told r.out) (g.R.Sink.told c.run_command.new.report) in
-    completes true (map string_bytes c.args.words.now) c.args.limits.now before now r.answers.items r.fault r.status c.run_command.ensures
+    let r = c.run_read.result in
+    let now : World = world (g.S.Shelf.told r.shelf) (g.P.Places.told c.run_read.new.places) (g.I.Source.told r.input) (g.O.Sink.told r.out) (g.R.Sink.told c.run_read.new.report) in
+    completes true (map string_bytes c.args.words.now) c.args.limits.now before now r.answers.items r.fault r.status c.run_read.ensures

@@ -1,0 +1,83 @@
+// The rows that the call on one thread is tested by as well.
+use crate::running::row_is;
+use program_rows::{
+    BAD_SCRIPTS, GROUPS, Group, LIMITED, LIMITS, LINE_BY_LINE, Row, SCRIPTS, STANDARD, TEXT,
+    TWO_AND_TWO, TWO_FILES,
+};
+use std::alloc::Global;
+use std::sync::Wait;
+use std::test::Fail;
+use std::thread::Threads;
+use std::time::Clock;
+use vault_ports::MemShelf;
+use vault_types::Limits;
+
+// Runs the rows of each group, each over the shelf that the one before has left, the first over an empty one.
+fn groups_are<H: Threads + Wait + Clock + Copy + Drop + Send>(
+    host: H,
+    alloc: Global,
+    limits: &Limits,
+    groups: &[&[Row]],
+) -> Result<(), Fail> {
+    for rows in groups {
+        let mut shelf = MemShelf::new(alloc);
+        for row in *rows {
+            shelf = row_is(host, alloc, limits, row, &[], shelf)?;
+        }
+    }
+    Ok(())
+}
+
+// Runs the scripts of each group, each over an empty shelf.
+fn scripts_are<H: Threads + Wait + Clock + Copy + Drop + Send>(
+    host: H,
+    alloc: Global,
+    groups: &[Group],
+) -> Result<(), Fail> {
+    for group in groups {
+        for row in group.rows {
+            let _ = row_is(
+                host,
+                alloc,
+                &STANDARD,
+                row,
+                group.files,
+                MemShelf::new(alloc),
+            )?;
+        }
+    }
+    Ok(())
+}
+
+#[test]
+fn commands_do_as_their_rows_say(rt: HostRuntime) -> Result<(), Fail> {
+    groups_are(rt, rt.alloc(), &STANDARD, GROUPS)
+}
+
+#[test]
+fn limits_are_kept_as_the_rows_say(rt: HostRuntime) -> Result<(), Fail> {
+    groups_are(rt, rt.alloc(), &LIMITS, &[LIMITED])
+}
+
+#[test]
+fn scripts_do_as_their_rows_say(rt: HostRuntime) -> Result<(), Fail> {
+    scripts_are(rt, rt.alloc(), SCRIPTS)?;
+    scripts_are(
+        rt,
+        rt.alloc(),
+        &[
+            Group {
+                files: &[("one", TEXT)],
+                rows: &[LINE_BY_LINE],
+            },
+            Group {
+                files: TWO_FILES,
+                rows: &[TWO_AND_TWO],
+            },
+            Group {
+                files: &[("x", b"x")],
+                rows: BAD_SCRIPTS,
+            },
+        ],
+    )
+}

@@ -1,5 +1,5 @@
 // A run of lines.
-ghost use Rattle.std.specs.Prelude.{◌≡◌, ◌≤◌, true, IsSome, IfOk, IfErr, None};
+ghost use Rattle.std.specs.Prelude.{◌≡◌, ◌≤◌, true, Option, IsSome, IfOk, IfErr, None};
 ghost use Rattle.std.specs.List.{AllByRecursion};
 ghost use Rattle.vault_types.specs.Events.{Change};
 ghost use Rattle.vault_types.specs.Script.{Sources};

@@ -8,3 +8,5 @@ mod rows;
 mod running;
 #[cfg(test)]
 mod scripts;
+#[cfg(test)]
+mod threads;

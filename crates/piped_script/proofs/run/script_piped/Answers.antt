@@ -20,7 +20,7 @@ unreachable-requires g c = omega (arith, c.in-Err.ensures.full, c.loop-line.inva
 
 pub loop-line-preserved : goal.loop-line-preserved
 loop-line-preserved g c = record {
-  chained = rw c.in-Ok-push.ensures.items (chain_goes_on _ _ _ _ _ _ _ c.line-item.result c.one_line.result.1 c.loop-line-test.true c.line-item.is c.loop-line.invariant.chained (record { step = c.one_line.ensures.steps; needs = c.one_line.ensures.room }));
+  chained = rw c.in-Ok-push.ensures.items (chain_goes_on _ _ _ _ _ _ _ c.line-item.result c.one_line-behind.result.1 c.loop-line-test.true c.line-item.is c.loop-line.invariant.chained (record { step = c.one_line-behind.ensures.steps; needs = c.one_line-behind.ensures.room }));
   count = rw c.in-Ok-push.ensures.len (omega (arith, c.loop-line.invariant.count));
   room = omega (arith, c.push.ensures.capacity, c.loop-line.invariant.room);
   within = omega (arith, c.loop-line-test.true);

@@ -1,0 +1,118 @@
+// Runs that no run on one thread could do, and a job that is stopped.
+ghost use Rattle.std.specs.Prelude.{◌<◌, length, All, OnOk};
+
+use crate::running::words_of;
+use destor_top::{Ended, run};
+use program_rows::STANDARD;
+use std::alloc::Global;
+use std::sync::Wait;
+use std::test::Fail;
+use std::thread;
+use std::thread::Threads;
+use std::time::Clock;
+use vault_gates::{GateShelf, GateSource, gates};
+use vault_ports::{FaultShelf, MemPlaces, MemShelf, MemSink, MemSource};
+use vault_types::Kind;
+
+const FOUR: &str = "backup --chunk fixed --size 4 --segment 4 --container 4";
+
+const FOUR_STORED: &[u8] =
+    b"backup 1: 4 chunks, 16 bytes, 4 new containers, 16 bytes written, 0 sparse\n";
+
+// Puts a piece behind the others.
+fn push_piece(pieces: &mut Vec<Vec<u8>>, alloc: Global, bytes: &[u8]) -> Result<(), Fail>
+    requires some { 0 < length bytes.now }
+    requires others { All (λ p. 0 < length p.items) pieces.old.items }
+    ensures { OnOk result (All (λ p. 0 < length p.items) pieces.new.items) }
+{
+    let piece = bytes.to_vec(alloc)?;
+    pieces.push(piece)?;
+    Ok(())
+}
+
+// The status and the text of a backup whose second read waits for the first put of a payload, as that put for that read.
+fn read_and_put_meet<H: Threads + Wait + Clock + Copy + Drop + Send>(
+    host: H,
+    alloc: Global,
+) -> Result<(u8, Vec<u8>), Fail> {
+    let words = words_of(alloc, FOUR)?;
+    thread::scope(
+        thread::scope_env(),
+        &host,
+        |scope| -> Result<(u8, Vec<u8>), Fail> {
+            let (reads, puts) = gates(alloc)?;
+            let mut pieces = Vec::new(alloc);
+            push_piece(&mut pieces, alloc, b"aaaabbbbcccc")?;
+            push_piece(&mut pieces, alloc, b"dddd")?;
+            let mut places = MemPlaces::with(alloc, Vec::new(alloc), 0)?;
+            let mut report = MemSink::with(alloc, 1_000)?;
+            let ended = run(
+                host,
+                alloc,
+                scope,
+                words.as_slice(),
+                &STANDARD,
+                GateShelf::new(MemShelf::new(alloc), Kind::Payload, 1, puts),
+                &mut places,
+                GateSource::new(pieces, 2, reads),
+                MemSink::with(alloc, 1_000)?,
+                &mut report,
+            );
+            let Ended { status, out, .. } = ended;
+            Ok((status, out.into_vec()))
+        },
+    )
+}
+
+#[test]
+fn a_backup_puts_while_it_reads(rt: HostRuntime) -> Result<(), Fail> {
+    let (status, out) = read_and_put_meet(rt, rt.alloc())?;
+    assert!(rt; status == 0 && out.as_slice() == FOUR_STORED);
+    Ok(())
+}
+
+// Bytes of which no four are the four before.
+fn counted(alloc: Global) -> Result<Vec<u8>, Fail> {
+    let mut bytes = Vec::new(alloc);
+    for at in 0..4_000u32 {
+        bytes.push((at % 251) as u8)?;
+    }
+    Ok(bytes)
+}
+
+// The status of a backup whose first put of a payload fails, and how many bytes of its source are left.
+fn left_behind_a_failed_put<H: Threads + Wait + Clock + Copy + Drop + Send>(
+    host: H,
+    alloc: Global,
+) -> Result<(u8, usize), Fail> {
+    let text = format!(in alloc; "{FOUR} --queue 1")?;
+    let words = words_of(alloc, text.as_str())?;
+    thread::scope(
+        thread::scope_env(),
+        &host,
+        |scope| -> Result<(u8, usize), Fail> {
+            let mut places = MemPlaces::with(alloc, Vec::new(alloc), 0)?;
+            let mut report = MemSink::with(alloc, 1_000)?;
+            let ended = run(
+                host,
+                alloc,
+                scope,
+                words.as_slice(),
+                &STANDARD,
+                FaultShelf::new(MemShelf::new(alloc), [5].to_vec(alloc)?, false),
+                &mut places,
+                MemSource::new(counted(alloc)?, 4),
+                MemSink::with(alloc, 1_000)?,
+                &mut report,
+            );
+            Ok((ended.status, ended.input.left().len()))
+        },
+    )
+}
+
+#[test]
+fn a_job_stops_behind_a_failed_put(rt: HostRuntime) -> Result<(), Fail> {
+    let (status, left) = left_behind_a_failed_put(rt, rt.alloc())?;
+    assert!(rt; status == 6 && left >= 3_000);
+    Ok(())
+}

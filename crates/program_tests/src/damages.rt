@@ -2,7 +2,7 @@
 use crate::formats;
 use crate::formats::{bytes_of, store_with};
 use crate::running::{as_said, holds, row_is, rows_are, run_on, same_blobs};
-use program_rows::{BACKUP, FIRST, QUIET, RECIPE, STANDARD, TEXT, Row};
+use program_rows::{BACKUP, FIRST, QUIET, RECIPE, Row, STANDARD, TEXT};
 use std::alloc::Global;
 use std::test::Fail;
 use vault_ports::MemShelf;

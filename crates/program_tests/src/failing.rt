@@ -1,6 +1,6 @@
 // A first backup over a shelf of which one call fails.
 use crate::running::{as_said, row_is, run_on};
-use program_rows::{BACKUP, FLOOR, PAYLOAD, QUIET, RECIPE, STANDARD, TABLE, TEXT, Row};
+use program_rows::{BACKUP, FLOOR, PAYLOAD, QUIET, RECIPE, Row, STANDARD, TABLE, TEXT};
 use std::alloc::Global;
 use std::test::Fail;
 use vault_ports::{FaultShelf, MemShelf};

@@ -1,6 +1,6 @@
 // The bytes of recipes of both formats, which were worked out apart from the store; and that they stay.
 use crate::running::{row_is, rows_are};
-use program_rows::{BACKUP, FIRST, QUIET, RECIPE, STANDARD, TEXT, Row};
+use program_rows::{BACKUP, FIRST, QUIET, RECIPE, Row, STANDARD, TEXT};
 use std::alloc::Global;
 use std::test::Fail;
 use vault_ports::{MemShelf, Shelf};

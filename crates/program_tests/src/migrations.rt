@@ -1,7 +1,7 @@
 // `migrate`, over a store whose recipe is in the first format.
 use crate::formats::{THREE_CHUNKS, THREE_IN_FORMAT_1, has_recipe, store_with};
 use crate::running::{row_is, run_on};
-use program_rows::{QUIET, RECIPE, STANDARD, TEXT, Row};
+use program_rows::{QUIET, RECIPE, Row, STANDARD, TEXT};
 use std::alloc::Global;
 use std::test::Fail;
 use vault_ports::FaultShelf;

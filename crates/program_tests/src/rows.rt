@@ -1,6 +1,9 @@
 // Rows of single commands.
 use crate::running::{blob_len, groups_are, holds, lists, rows_are, rows_over};
-use program_rows::{BACKUP, FIRST, FLOOR, GROUPS, LIMITED, LIMITS, PAYLOAD, QUIET, RECIPE, SECOND, STANDARD, TABLE, TEXT, Row};
+use program_rows::{
+    BACKUP, FIRST, FLOOR, GROUPS, LIMITED, LIMITS, PAYLOAD, QUIET, RECIPE, Row, SECOND, STANDARD,
+    TABLE, TEXT,
+};
 use std::alloc::Global;
 use std::test::Fail;
 use vault_ports::{FaultShelf, MemPlaces, MemShelf, MemSource};

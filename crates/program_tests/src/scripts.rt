@@ -1,6 +1,9 @@
 // Rows of scripts.
 use crate::running::{Seen, as_said, holds, lists, rows_are, run_with};
-use program_rows::{BAD_SCRIPTS, BATCH, FIRST, LINE_BY_LINE, PAYLOAD, SCRIPTS, STANDARD, TEXT, TWO_AND_TWO, TWO_FILES, File, Group, Row};
+use program_rows::{
+    BAD_SCRIPTS, BATCH, FIRST, File, Group, LINE_BY_LINE, PAYLOAD, Row, SCRIPTS, STANDARD, TEXT,
+    TWO_AND_TWO, TWO_FILES,
+};
 use std::alloc::Global;
 use std::test::Fail;
 use vault_ports::{FaultPlaces, FaultShelf, MemPlaces, MemShelf, MemSource};

@@ -1,7 +1,7 @@
 // Deletions over a shelf that an earlier run left unsettled, and a crash behind them.
 use crate::recorded::Recorded;
 use crate::running::{as_said, rows_are, run_on, run_with};
-use program_rows::{BACKUP, QUIET, STANDARD, Row};
+use program_rows::{BACKUP, QUIET, Row, STANDARD};
 use std::alloc::Global;
 use std::test::Fail;
 use vault_ports::{MemPlaces, MemShelf, MemSource};

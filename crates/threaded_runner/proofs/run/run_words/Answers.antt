@@ -10,50 +10,50 @@ use Rattle.command_runner.proofs.Runs.{batch, one_line}
 use Rattle.threaded_runner.proofs.run.run_words.Goals as goal
 
 pub run_backup-requires-clause-config : goal.run_backup-requires-clause-config
-run_backup-requires-clause-config g c =
+run_backup-requires-clause-config g c κs within =
     let x = c.in-Backup in
     (of_words (map string_bytes c.args.words.now) (command.Backup x.set x.config x.queue x.lanes x.sample) (c.in-Ok.ensures.ok ∙ ap (λ (d : Command). Some d) x.is)).0
 
 pub run_backup-requires-clause-queue : goal.run_backup-requires-clause-queue
-run_backup-requires-clause-queue g c =
+run_backup-requires-clause-queue g c κs within =
     let x = c.in-Backup in
     omega (arith, c.course_of.ensures.queue, (of_words (map string_bytes c.args.words.now) (command.Backup x.set x.config x.queue x.lanes x.sample) (c.in-Ok.ensures.ok ∙ ap (λ (d : Command). Some d) x.is)).1.queue.low)
 
 pub run_backup-requires-clause-lanes : goal.run_backup-requires-clause-lanes
-run_backup-requires-clause-lanes g c =
+run_backup-requires-clause-lanes g c κs within =
     let x = c.in-Backup in
     (omega (arith, c.course_of.ensures.lanes, (of_words (map string_bytes c.args.words.now) (command.Backup x.set x.config x.queue x.lanes x.sample) (c.in-Ok.ensures.ok ∙ ap (λ (d : Command). Some d) x.is)).1.lanes.low), omega (arith, c.course_of.ensures.lanes, (of_words (map string_bytes c.args.words.now) (command.Backup x.set x.config x.queue x.lanes x.sample) (c.in-Ok.ensures.ok ∙ ap (λ (d : Command). Some d) x.is)).1.lanes.high))
 
 pub run_batch-requires-clause-queue : goal.run_batch-requires-clause-queue
-run_batch-requires-clause-queue g c =
+run_batch-requires-clause-queue g c κs within =
     let x = c.in-Batch in
-    omega (arith, c.course_of.ensures.queue, (of_words (map string_bytes c.args.words.now) (command.Batch x.queue x.lanes x.workers) (c.in-Ok.ensures.ok ∙ ap (λ (d : Command). Some d) x.is)).queue.low)
+    omega (arith, c.course_of-in-Batch.ensures.queue, (of_words (map string_bytes c.args.words.now) (command.Batch x.queue x.lanes x.workers) (c.in-Ok.ensures.ok ∙ ap (λ (d : Command). Some d) x.is)).queue.low)
 
 pub run_batch-requires-clause-lanes : goal.run_batch-requires-clause-lanes
-run_batch-requires-clause-lanes g c =
+run_batch-requires-clause-lanes g c κs within =
     let x = c.in-Batch in
-    (omega (arith, c.course_of.ensures.lanes, (of_words (map string_bytes c.args.words.now) (command.Batch x.queue x.lanes x.workers) (c.in-Ok.ensures.ok ∙ ap (λ (d : Command). Some d) x.is)).lanes.low), omega (arith, c.course_of.ensures.lanes, (of_words (map string_bytes c.args.words.now) (command.Batch x.queue x.lanes x.workers) (c.in-Ok.ensures.ok ∙ ap (λ (d : Command). Some d) x.is)).lanes.high))
+    (omega (arith, c.course_of-in-Batch.ensures.lanes, (of_words (map string_bytes c.args.words.now) (command.Batch x.queue x.lanes x.workers) (c.in-Ok.ensures.ok ∙ ap (λ (d : Command). Some d) x.is)).lanes.low), omega (arith, c.course_of-in-Batch.ensures.lanes, (of_words (map string_bytes c.args.words.now) (command.Batch x.queue x.lanes x.workers) (c.in-Ok.ensures.ok ∙ ap (λ (d : Command). Some d) x.is)).lanes.high))
 
 pub run_fill-requires-clause-queue : goal.run_fill-requires-clause-queue
-run_fill-requires-clause-queue g c =
+run_fill-requires-clause-queue g c κs within =
     let x = c.in-Fill in
-    omega (arith, c.course_of.ensures.queue, (of_words (map string_bytes c.args.words.now) (command.Fill x.seed x.versions x.queue x.lanes x.workers) (c.in-Ok.ensures.ok ∙ ap (λ (d : Command). Some d) x.is)).2.queue.low)
+    omega (arith, c.course_of-in-Fill.ensures.queue, (of_words (map string_bytes c.args.words.now) (command.Fill x.seed x.versions x.queue x.lanes x.workers) (c.in-Ok.ensures.ok ∙ ap (λ (d : Command). Some d) x.is)).2.queue.low)
 
 pub run_fill-requires-clause-lanes : goal.run_fill-requires-clause-lanes
-run_fill-requires-clause-lanes g c =
+run_fill-requires-clause-lanes g c κs within =
     let x = c.in-Fill in
-    (omega (arith, c.course_of.ensures.lanes, (of_words (map string_bytes c.args.words.now) (command.Fill x.seed x.versions x.queue x.lanes x.workers) (c.in-Ok.ensures.ok ∙ ap (λ (d : Command). Some d) x.is)).2.lanes.low), omega (arith, c.course_of.ensures.lanes, (of_words (map string_bytes c.args.words.now) (command.Fill x.seed x.versions x.queue x.lanes x.workers) (c.in-Ok.ensures.ok ∙ ap (λ (d : Command). Some d) x.is)).2.lanes.high))
+    (omega (arith, c.course_of-in-Fill.ensures.lanes, (of_words (map string_bytes c.args.words.now) (command.Fill x.seed x.versions x.queue x.lanes x.workers) (c.in-Ok.ensures.ok ∙ ap (λ (d : Command). Some d) x.is)).2.lanes.low), omega (arith, c.course_of-in-Fill.ensures.lanes, (of_words (map string_bytes c.args.words.now) (command.Fill x.seed x.versions x.queue x.lanes x.workers) (c.in-Ok.ensures.ok ∙ ap (λ (d : Command). Some d) x.is)).2.lanes.high))
 
 pub run_fill-requires-clause-few : goal.run_fill-requires-clause-few
-run_fill-requires-clause-few g c =
+run_fill-requires-clause-few g c κs within =
     let x = c.in-Fill in
     (of_words (map string_bytes c.args.words.now) (command.Fill x.seed x.versions x.queue x.lanes x.workers) (c.in-Ok.ensures.ok ∙ ap (λ (d : Command). Some d) x.is)).1
 
 pub run_command-requires-clause-read : goal.run_command-requires-clause-read
-run_command-requires-clause-read g c = ((map string_bytes c.args.words.now), c.in-Ok.ensures.ok)
+run_command-requires-clause-read g c κs within = ((map string_bytes c.args.words.now), c.in-Ok.ensures.ok)
 
-pub returns-in-command : goal.returns-in-command
-returns-in-command g c = c.run_command.ensures (map string_bytes c.args.words.now) c.in-Ok.ensures.ok
+pub returns-in_default : goal.returns-in_default
+returns-in_default g c = c.run_command.ensures (map string_bytes c.args.words.now) c.in-Ok.ensures.ok
 
 pub returns-in-None : goal.returns-in-None
 returns-in-None g c =

@@ -10,7 +10,7 @@ use std::thread;
 use vault_types::{Fault, Limits};
 
 fn main(rt: HostRuntime) -> ExitCode {
-    let (alloc, limits) = (rt.alloc(), Limits::standard());
+    let alloc = rt.alloc();
     let mut err = ErrSink::new(rt.stderr());
     let words = match words_of(&rt) {
         Ok(words) => words,
@@ -31,7 +31,7 @@ fn main(rt: HostRuntime) -> ExitCode {
             alloc,
             scope,
             words,
-            &limits,
+            &Limits::standard(),
             shelf,
             &mut places,
             InSource::new(rt.stdin()),

@@ -1,4 +1,6 @@
 // Rows by the call that runs in threads.
+ghost use Rattle.std.specs.Prelude.{◌≤◌};
+
 use destor_top::{Ended, run};
 use program_rows::{File, Row};
 use std::alloc::Global;

@@ -51,12 +51,12 @@ fn line_of(alloc: Global, numbers: &mut Numbers, place: u32) -> Result<String, F
     let set = numbers.below(2);
     match numbers.below(5) {
         0 => {
-            let through = numbers.below(4) + 1;
+            let through = numbers.below(4).saturating_add(1);
             Ok(format!(in alloc; "delete {through} set={set}\n")?)
         }
         1 | 2 => {
-            let version = numbers.below(5) + 1;
-            let cache = numbers.below(3) + 1;
+            let version = numbers.below(5).saturating_add(1);
+            let cache = numbers.below(3).saturating_add(1);
             Ok(format!(in alloc; "restore {version} out{place} set={set} cache={cache}\n")?)
         }
         3 => {
@@ -65,8 +65,8 @@ fn line_of(alloc: Global, numbers: &mut Numbers, place: u32) -> Result<String, F
         }
         _ => {
             let name = file_of(numbers);
-            let size = numbers.below(2_000) + 50;
-            let container = numbers.below(9_000) + 2_000;
+            let size = numbers.below(2_000).saturating_add(50);
+            let container = numbers.below(9_000).saturating_add(2_000);
             Ok(format!(in alloc;
                 "backup {name} set={set} chunk=fixed size={size} container={container}\n"
             )?)
@@ -76,7 +76,7 @@ fn line_of(alloc: Global, numbers: &mut Numbers, place: u32) -> Result<String, F
 
 fn script_of(alloc: Global, numbers: &mut Numbers) -> Result<Vec<u8>, Fail> {
     let mut script = Vec::new(alloc);
-    for place in 0..numbers.below(9) + 2 {
+    for place in 0..numbers.below(9).saturating_add(2) {
         let line = line_of(alloc, numbers, place)?;
         script.extend_from_slice(line.as_bytes())?;
     }
@@ -86,7 +86,7 @@ fn script_of(alloc: Global, numbers: &mut Numbers) -> Result<Vec<u8>, Fail> {
 // Bytes in which some come again.
 fn bytes_of(alloc: Global, numbers: &mut Numbers) -> Result<Vec<u8>, Fail> {
     let mut bytes = Vec::new(alloc);
-    for _ in 0..numbers.below(12) + 1 {
+    for _ in 0..numbers.below(12).saturating_add(1) {
         let piece = [numbers.below(4) as u8; 1_000];
         bytes.extend_from_slice(piece.as_slice())?;
         bytes.push(numbers.below(256) as u8)?;
@@ -240,8 +240,8 @@ fn runs_are_same<H: Threads + Wait + Clock + Copy + Drop + Send>(
     for _ in 0..2 {
         let (queue, lanes, workers) = (
             queue_of(&mut numbers),
-            numbers.below(8) + 1,
-            numbers.below(8) + 1,
+            numbers.below(8).saturating_add(1),
+            numbers.below(8).saturating_add(1),
         );
         let words = format!(in alloc; "batch --queue {queue} --lanes {lanes} --workers {workers}")?;
         let text = script_of(alloc, &mut numbers)?;

@@ -4,6 +4,7 @@
 use destor_top::run_plain;
 use folder_shelf::{ErrSink, FolderPlaces, FolderShelf, InSource, OutSink};
 use program_words::{refuse, words_of};
+use std::fs::File;
 use std::process::ExitCode;
 use vault_types::{Fault, Limits};
 
@@ -21,6 +22,14 @@ fn main(rt: HostRuntime) -> ExitCode {
         Ok(shelf) => shelf,
         Err(fault) => return refuse(fault, &mut err),
     };
+    // Another run may have the store. The host lets go of the lock when this file is closed, also where a run is killed.
+    let itself = match File::open(&rt, folder.as_str()) {
+        Ok(itself) => itself,
+        Err(_) => return refuse(Fault::StoreFault(1), &mut err),
+    };
+    if itself.try_lock().is_err() {
+        return refuse(Fault::StoreFault(1), &mut err);
+    }
     let mut places = FolderPlaces::new(rt);
     let ended = run_plain(
         alloc,

@@ -5,7 +5,7 @@ use folder_shelf::{
     ErrSink, FolderPlaces, FolderShelf, InSource, OutSink, StreamSink, StreamSource,
 };
 use std::alloc::Global;
-use std::fs::{File, Files};
+use std::fs::Files;
 use std::io::{Error, ErrorKind, Read, Write};
 use std::test::Fail;
 use std::{fs, io};
@@ -128,7 +128,7 @@ fn other_file_names_are_no_names(rt: HostRuntime) {
     assert!(rt; none_is_a_name(OTHERS));
 }
 
-fn started<R: Files<File = File> + Drop>(alloc: Global, files: R) -> Result<FolderShelf<R>, Fail> {
+fn started<R: Files + Drop>(alloc: Global, files: R) -> Result<FolderShelf<R>, Fail> {
     match FolderShelf::start(alloc, files, "store") {
         Ok(shelf) => Ok(shelf),
         Err(_) => Err(Fail::from("the folder was not made")),
@@ -294,26 +294,11 @@ fn containers_get_their_names_later(rt: HostRuntime) -> Result<(), Fail> {
     Ok(())
 }
 
-fn is_refused<R: Files<File = File> + Drop>(alloc: Global, files: R, path: &str) -> bool {
+fn is_refused<R: Files + Drop>(alloc: Global, files: R, path: &str) -> bool {
     matches!(
         FolderShelf::start(alloc, files, path),
         Err(Fault::StoreFault(1))
     )
-}
-
-// Whether a second shelf over a folder is refused, and one behind the first is made.
-fn one_at_a_time(rt: HostRuntime) -> Result<(bool, bool), Fail> {
-    let first = started(rt.alloc(), rt)?;
-    let second = is_refused(rt.alloc(), rt, "store");
-    drop(first);
-    let third = is_refused(rt.alloc(), rt, "store");
-    Ok((second, third))
-}
-
-#[test]
-fn a_folder_has_one_shelf_at_a_time(rt: HostRuntime) -> Result<(), Fail> {
-    assert!(rt; one_at_a_time(rt)? == (true, false));
-    Ok(())
 }
 
 #[test]

@@ -23,7 +23,7 @@ const LISTED: usize = 16_384;
 #[derive(Drop)]
 pub struct Folder<R: Files> {
     files: R,
-    // the folder itself, which is open and locked as long as the shelf is there
+    // the folder itself, which is open as long as the shelf is there
     itself: R::File,
     // the folder's path, with a slash at its end
     path: String,
@@ -38,10 +38,10 @@ pub struct Folder<R: Files> {
 }
 
 impl<R: Files> Folder<R> {
-    // Opens the folder, makes it where it is absent, and locks it. One that another open of it has locked is refused.
+    // Opens the folder, and makes it where it is absent.
     pub fn open(alloc: Global, files: R, path: &str) -> Result<Self, Refused>
     where
-        R: Files<File = File> + Drop,
+        R: Drop,
     {
         let with_slash = add(alloc, path, "/")?;
         let place = String::with_capacity(alloc, with_slash.len().saturating_add(ROOM))?;
@@ -212,7 +212,7 @@ impl<R: Files> Folder<R> {
 }
 
 // Makes the folder where it is absent, and opens it. That it is there is on the disk before anything is put into it.
-fn make<R: Files<File = File>>(files: &R, path: &str, with_slash: &str) -> io::Result<File> {
+fn make<R: Files>(files: &R, path: &str, with_slash: &str) -> io::Result<R::File> {
     let is_new = match files.create_dir(path) {
         Ok(()) => true,
         Err(e) if e.kind() == ErrorKind::AlreadyExists => false,
@@ -223,10 +223,7 @@ fn make<R: Files<File = File>>(files: &R, path: &str, with_slash: &str) -> io::R
         Err(e) if is_new => return Err(e),
         _ => {}
     }
-    let itself = File::open(files, with_slash)?;
-    // The host lets go of the lock when this file is closed, also where the program is killed.
-    itself.try_lock()?;
-    Ok(itself)
+    File::open(files, with_slash)
 }
 
 // The folder that has this one.

@@ -7,7 +7,7 @@ ghost use Rattle.vault_types.specs.declared.Fault.TheVariants as fault;
 use crate::folder::Folder;
 use crate::streams::count;
 use std::alloc::Global;
-use std::fs::{File, Files};
+use std::fs::Files;
 use std::marker::Model;
 use vault_traits::{Failed, Refused, Shelf};
 use vault_types::{Fault, Kind, Name, Set};
@@ -36,11 +36,10 @@ impl<R: Files> Model for FolderShelf<R> {
 }
 
 impl<R: Files> FolderShelf<R> {
-    /// A shelf over the folder at this path, which is made where it is absent, and is locked as long as the shelf is there.
-    /// `StoreFault(1)` says that this failed, or that another shelf has the folder.
+    /// A shelf over the folder at this path, which is made where it is absent. `StoreFault(1)` says that this failed.
     pub fn start(alloc: Global, files: R, path: &str) -> Result<Self, Fault>
     where
-        R: Files<File = File> + Drop,
+        R: Drop,
         ensures fresh { IfOk result (λ s. s ≡ record { faults = 0; gets = 0 }) }
         ensures err { IfErr result (λ e. (e ≡ fault.Memory) ⊎ (e ≡ fault.StoreFault 1)) }
     {

@@ -83,13 +83,18 @@ fn script_of(alloc: Global, numbers: &mut Numbers) -> Result<Vec<u8>, Fail> {
     Ok(script)
 }
 
+// A byte below the bound.
+fn byte_of(numbers: &mut Numbers, bound: u32) -> u8 {
+    u8::try_from(numbers.below(bound)).unwrap_or(0)
+}
+
 // Bytes in which some come again.
 fn bytes_of(alloc: Global, numbers: &mut Numbers) -> Result<Vec<u8>, Fail> {
     let mut bytes = Vec::new(alloc);
     for _ in 0..numbers.below(12).saturating_add(1) {
-        let piece = [numbers.below(4) as u8; 1_000];
+        let piece = [byte_of(numbers, 4); 1_000];
         bytes.extend_from_slice(piece.as_slice())?;
-        bytes.push(numbers.below(256) as u8)?;
+        bytes.push(byte_of(numbers, 256))?;
     }
     Ok(bytes)
 }

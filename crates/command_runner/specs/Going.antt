@@ -25,11 +25,16 @@ pub record GoesOn (Runs : World → World → List Answer → Option Fault → T
 
 -- the shelf opened, and these lines ran over it
 pub record HasRun (in_order : Bool) (before : ShelfTold) (limits : Limits) (lines : List Line)
-    (p q : PlacesTold) (room : Option ℕ) (answers : List Answer) (now : ShelfTold) : Type 0 where
+    (p q : PlacesTold) (answers : List Answer) (now : ShelfTold) : Type 0 where
   pub opened : HasOpened before
   pub runs : RunsLines in_order (Begins before) (StraysOf before) limits lines answers before now p q
-  pub enough : (T : State) (sources : Sources) → Begins before T → AreFedBy p.files sources lines
-      → IsSome p.files → NeedRoom room sources T lines answers
+
+-- where the sinks of the places have room for so many bytes, one failed only where its version is
+-- longer
+abbrev pub HasRoom : ShelfTold → List Line → PlacesTold → Option ℕ → List Answer → Type 0
+HasRoom before lines p room answers =
+    (T : State) (sources : Sources) → Begins before T → AreFedBy p.files sources lines
+    → IsSome p.files → NeedRoom room sources T lines answers
 
 -- it did not, or there was no memory for the answers of lines
 pub record HasNotOpened (before : ShelfTold) (p q : PlacesTold) (f : Fault) (now : ShelfTold) : Type 0 where

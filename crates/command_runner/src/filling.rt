@@ -7,7 +7,7 @@ ghost use Rattle.store_model.specs.Filling.{AreGenerated, RunsFill};
 ghost use Rattle.store_model.specs.Ranges.{AreLimits};
 ghost use Rattle.store_model.specs.World.{world};
 ghost use Rattle.workload.specs.Places.{FilledPlaces, told_of};
-ghost use Rattle.command_runner.specs.Going.{GoesOn, HasRun, HasNotOpened};
+ghost use Rattle.command_runner.specs.Going.{GoesOn, HasRun, HasRoom, HasNotOpened};
 
 use crate::ending::{Ended, ended_early, ended_with};
 use crate::opened::run_over;
@@ -49,7 +49,8 @@ pub fn ended_fill<S: Shelf, I: Source, O: Sink, R: Sink>(
         (made : FilledPlaces) (places : PlacesTold) → script.now ≡ fill_lines versions
         → AreGenerated seed versions (told_of made)
         → IfOk ran (λ done. HasRun in_order before limits script.now (told_of made) (told_of left.now)
-        (Some 8388671) done.0.items (S.told done.1))
+        done.0.items (S.told done.1))
+        → IfOk ran (λ done. HasRoom before script.now (told_of made) (Some 8388671) done.0.items)
         → IfErr ran (λ e. HasNotOpened before (told_of made) (told_of left.now) e.0 (S.told e.1))
         → GoesOn (RunsFill in_order seed versions limits)
         (world before places (I.told input) (O.told out) (R.told report.old))

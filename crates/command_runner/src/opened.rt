@@ -3,7 +3,7 @@ ghost use Rattle.std.specs.Prelude.{true, IfOk, IfErr};
 ghost use Rattle.std.specs.List.{AllByRecursion};
 ghost use Rattle.store_model.specs.Outputs.{AreApartLines};
 ghost use Rattle.store_model.specs.Ranges.{AreLimits, IsLineInRange};
-ghost use Rattle.command_runner.specs.Going.{HasRun, HasNotOpened};
+ghost use Rattle.command_runner.specs.Going.{HasRun, HasRoom, HasNotOpened};
 
 use crate::store::ShelfStore;
 use script_runner::{Done, script_plain};
@@ -23,7 +23,9 @@ pub(crate) fn run_over<S: Shelf, K: ShelfStore<S>, P: Places>(
     requires ranges { AllByRecursion IsLineInRange lines.now }
     requires limits { AreLimits limits.now }
     ensures ok { IfOk result (λ done. HasRun true (S.told shelf) limits.now lines.now (P.told places.old)
-        (P.told places.new) P.room done.0.items (S.told done.1)) }
+        (P.told places.new) done.0.items (S.told done.1)) }
+    ensures room { IfOk result (λ done. HasRoom (S.told shelf) lines.now (P.told places.old) P.room
+        done.0.items) }
     ensures err { IfErr result (λ e. HasNotOpened (S.told shelf) (P.told places.old) (P.told places.new)
         e.0 (S.told e.1)) }
 {

@@ -1,5 +1,5 @@
 // The end of a run whose lines have run.
-ghost use Rattle.std.specs.Prelude.{◌≡◌, ℕ, Bool, List, Option, IfOk, IfErr};
+ghost use Rattle.std.specs.Prelude.{◌≡◌, Bool, List, IfOk, IfErr};
 ghost use Rattle.vault_types.specs.declared.Limits.{Limits as LimitsOf};
 ghost use Rattle.vault_types.specs.declared.Line.{Line as LineOf};
 ghost use Rattle.vault_traits.specs.Told.{PlacesTold, ShelfTold};
@@ -22,8 +22,8 @@ pub fn ended_lines<S: Shelf, I: Source, O: Sink, R: Sink>(
     report: &mut R,
 ) -> Ended<S, I, O>
     ensures { (in_order : Bool) (before : ShelfTold) (limits : LimitsOf) (lines : List LineOf)
-        (p q : PlacesTold) (room : Option ℕ)
-        → IfOk ran (λ done. HasRun in_order before limits lines p q room done.0.items (S.told done.1))
+        (p q : PlacesTold)
+        → IfOk ran (λ done. HasRun in_order before limits lines p q done.0.items (S.told done.1))
         → IfErr ran (λ e. HasNotOpened before p q e.0 (S.told e.1))
         → GoesOn (RanLines in_order lines limits)
         (world before p (I.told input) (O.told out) (R.told report.old))

@@ -2,7 +2,7 @@
 //! command, and prints what came of it.
 #![tactic(auto)]
 
-ghost use Rattle.std.specs.Prelude.{true, ◌≤◌, map, string_bytes};
+ghost use Rattle.std.specs.Prelude.{true, false, ◌≤◌, map, string_bytes};
 ghost use Rattle.store_model.specs.Ranges.{AreLimits};
 ghost use Rattle.store_model.specs.Run.{IsRun};
 ghost use Rattle.store_model.specs.World.{world};
@@ -58,9 +58,10 @@ pub fn run_plain<S: Shelf, P: Places, I: Source + Send, O: Sink + Send, R: Sink>
     )
 }
 
-/// Runs the command that the words are, as `run_plain` does, and with the same outcome; the streams of backups pass through
-/// stages in threads of the scope, by the command's settings `queue` and `lanes`. A stage whose thread is refused runs in
-/// this one.
+/// Runs the command that the words are, as `run_plain` does; the streams of backups pass through stages in threads of the
+/// scope, by the command's settings `queue` and `lanes`, and the restores of a script run in threads beside its later
+/// lines, so many at most as `workers` says. A stage whose thread is refused runs in this one. What differs is that the
+/// faults of a script's lines may be counted in another order than that of the lines.
 pub fn run<
     's,
     E: 's,
@@ -84,8 +85,9 @@ pub fn run<
 ) -> Ended<S, I, O>
 where
     P::Reader: Drop + 's,
+    P::Writer: Drop + 's,
     requires { AreLimits limits.now }
-    ensures run { IsRun true Unbuilt (map string_bytes words.now) limits.now
+    ensures run { IsRun false Unbuilt (map string_bytes words.now) limits.now
         (world (S.told shelf) (P.told places.old) (I.told input) (O.told out) (R.told report.old))
         (world (S.told result.shelf) (P.told places.new)
         (I.told result.input) (O.told result.out) (R.told report.new))

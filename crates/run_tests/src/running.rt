@@ -21,8 +21,8 @@ pub fn words_of(alloc: Global, text: &str) -> Result<Vec<String>, Fail> {
     Ok(words)
 }
 
-// Places with these files, whose writers have room for all that is written.
-fn places_of(alloc: Global, files: &[File]) -> Result<MemPlaces, Fail> {
+/// Places with these files, whose writers have room for all that is written.
+pub fn places_of(alloc: Global, files: &[File]) -> Result<MemPlaces, Fail> {
     let mut all = Vec::new(alloc);
     for (name, bytes) in files {
         all.push((String::from_str(alloc, name)?, bytes.to_vec(alloc)?))?;

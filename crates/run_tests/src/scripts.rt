@@ -46,15 +46,20 @@ fn queue_of(numbers: &mut Numbers) -> u32 {
     }
 }
 
-// A line of a script; the outputs of its restores are named by their places.
-fn line_of(alloc: Global, numbers: &mut Numbers, place: u32) -> Result<String, Fail> {
+// A line of a script; the outputs of its restores, where it may be one, are named by their places.
+fn line_of(
+    alloc: Global,
+    numbers: &mut Numbers,
+    place: u32,
+    restores: bool,
+) -> Result<String, Fail> {
     let set = numbers.below(2);
     match numbers.below(5) {
         0 => {
             let through = numbers.below(4).saturating_add(1);
             Ok(format!(in alloc; "delete {through} set={set}\n")?)
         }
-        1 | 2 => {
+        1 | 2 if restores => {
             let version = numbers.below(5).saturating_add(1);
             let cache = numbers.below(3).saturating_add(1);
             Ok(format!(in alloc; "restore {version} out{place} set={set} cache={cache}\n")?)
@@ -74,10 +79,10 @@ fn line_of(alloc: Global, numbers: &mut Numbers, place: u32) -> Result<String, F
     }
 }
 
-fn script_of(alloc: Global, numbers: &mut Numbers) -> Result<Vec<u8>, Fail> {
+fn script_of(alloc: Global, numbers: &mut Numbers, restores: bool) -> Result<Vec<u8>, Fail> {
     let mut script = Vec::new(alloc);
     for place in 0..numbers.below(9).saturating_add(2) {
-        let line = line_of(alloc, numbers, place)?;
+        let line = line_of(alloc, numbers, place, restores)?;
         script.extend_from_slice(line.as_bytes())?;
     }
     Ok(script)
@@ -233,7 +238,8 @@ fn are_same(alloc: Global, one: &Left, other: &Left) -> Result<bool, Fail> {
     )
 }
 
-// Two scripts one behind the other over one store, of which a call fails, both ways.
+// Two scripts one behind the other over one store, both ways. Where a call of the store fails, which it is depends on how
+// far the restores have come, so then there are none.
 fn runs_are_same<H: Threads + Wait + Clock + Copy + Drop + Send>(
     host: H,
     alloc: Global,
@@ -249,7 +255,7 @@ fn runs_are_same<H: Threads + Wait + Clock + Copy + Drop + Send>(
             numbers.below(8).saturating_add(1),
         );
         let words = format!(in alloc; "batch --queue {queue} --lanes {lanes} --workers {workers}")?;
-        let text = script_of(alloc, &mut numbers)?;
+        let text = script_of(alloc, &mut numbers, call == 0)?;
         let words = words_of(alloc, words.as_str())?;
         let script = Script {
             words: words.as_slice(),

@@ -1,18 +1,18 @@
 // Runs that no run on one thread could do, and a job that is stopped.
 ghost use Rattle.std.specs.Prelude.{◌<◌, length, All, OnOk};
 
-use crate::running::words_of;
+use crate::running::{places_of, words_of};
 use destor_top::{Ended, run};
-use program_rows::STANDARD;
+use program_rows::{PAYLOAD, STANDARD, TWO_FILES};
 use std::alloc::Global;
 use std::sync::Wait;
 use std::test::Fail;
 use std::thread;
 use std::thread::Threads;
 use std::time::Clock;
-use vault_gates::{GateShelf, GateSource, gates};
+use vault_gates::{GatePlaces, GateShelf, GateSource, gates};
 use vault_ports::{FaultShelf, MemPlaces, MemShelf, MemSink, MemSource};
-use vault_types::Kind;
+use vault_types::{Kind, Name};
 
 const FOUR: &str = "backup --chunk fixed --size 4 --segment 4 --container 4";
 
@@ -114,5 +114,72 @@ fn left_behind_a_failed_put<H: Threads + Wait + Clock + Copy + Drop + Send>(
 fn a_job_stops_behind_a_failed_put(rt: HostRuntime) -> Result<(), Fail> {
     let (status, left) = left_behind_a_failed_put(rt, rt.alloc())?;
     assert!(rt; status == 6 && left >= 3_000);
+    Ok(())
+}
+
+const BESIDE: &[u8] = b"backup a chunk=fixed size=4 rewrite=none\n\
+    backup b chunk=fixed size=4 rewrite=none\n\
+    restore 1 x\n\
+    delete 1\n";
+
+const BESIDE_TEXT: &[u8] =
+    b"backup 1: 1 chunks, 4 bytes, 1 new containers, 4 bytes written, 0 sparse\n\
+    backup 2: 1 chunks, 4 bytes, 1 new containers, 4 bytes written, 0 sparse\n\
+    restore 1: 4 bytes, 1 loads\n\
+    delete 1: floor 2, 1 containers reclaimed\n";
+
+const SECOND_PAYLOAD: Name = Name {
+    kind: Kind::Payload,
+    number: 2,
+};
+
+// Whether a restore whose first write waits for a deletion's floor, as that floor for the write, is done beside it: the
+// texts, the bytes, and then the containers.
+fn write_and_floor_meet<H: Threads + Wait + Clock + Copy + Drop + Send>(
+    host: H,
+    alloc: Global,
+) -> Result<(u8, bool, bool, bool), Fail> {
+    let words = words_of(alloc, "batch")?;
+    thread::scope(
+        thread::scope_env(),
+        &host,
+        |scope| -> Result<(u8, bool, bool, bool), Fail> {
+            let (writes, floors) = gates(alloc)?;
+            let mut places = GatePlaces::new(places_of(alloc, TWO_FILES)?, writes);
+            let mut report = MemSink::with(alloc, 1_000)?;
+            let ended = run(
+                host,
+                alloc,
+                scope,
+                words.as_slice(),
+                &STANDARD,
+                GateShelf::new(MemShelf::new(alloc), Kind::Floor, 2, floors),
+                &mut places,
+                MemSource::new(BESIDE.to_vec(alloc)?, 100),
+                MemSink::with(alloc, 1_000)?,
+                &mut report,
+            );
+            let Ended {
+                status,
+                out,
+                shelf,
+                ..
+            } = ended;
+            let shelf = shelf.into_inner();
+            let is_restored = places.bytes("x") == Some(b"aaaa".as_slice());
+            let is_left = shelf.blob(PAYLOAD).is_none() && shelf.blob(SECOND_PAYLOAD).is_some();
+            Ok((
+                status,
+                out.into_vec().as_slice() == BESIDE_TEXT,
+                is_restored,
+                is_left,
+            ))
+        },
+    )
+}
+
+#[test]
+fn a_restore_writes_while_its_version_is_deleted(rt: HostRuntime) -> Result<(), Fail> {
+    assert!(rt; write_and_floor_meet(rt, rt.alloc())? == (0, true, true, true));
     Ok(())
 }

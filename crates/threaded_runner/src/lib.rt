@@ -1,8 +1,9 @@
-//! A run of the program's words over a shelf, in which the streams of backups pass through stages in threads: `backup`,
-//! `batch` and `fill`. The other commands run as on one thread.
+//! A run of the program's words over a shelf in threads: the streams of backups pass through stages, in `backup`, `batch`
+//! and `fill`, and the restores of a script run beside its later lines. The other commands run as on one thread.
 #![tactic(auto)]
 
 mod backing;
+mod beside;
 mod filling;
 mod opened;
 mod run;

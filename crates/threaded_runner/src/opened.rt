@@ -3,7 +3,7 @@ ghost use Rattle.std.specs.Prelude.{true, ◌≤◌, IfOk, IfErr};
 ghost use Rattle.std.specs.List.{AllByRecursion};
 ghost use Rattle.store_model.specs.Outputs.{AreApartLines};
 ghost use Rattle.store_model.specs.Ranges.{AreLimits, IsLineInRange};
-ghost use Rattle.command_runner.specs.Going.{HasRun, HasNotOpened};
+ghost use Rattle.command_runner.specs.Going.{HasRun, HasRoom, HasNotOpened};
 
 use command_runner::ShelfStore;
 use keeper_store::KeeperStore;
@@ -42,7 +42,9 @@ where
     requires queue { 1 ≤ course.queue }
     requires lanes { (1 ≤ course.lanes) × (course.lanes ≤ 8) }
     ensures ok { IfOk result (λ done. HasRun true (S.told shelf) limits.now lines.now (P.told places.old)
-        (P.told places.new) P.room done.0.items (S.told done.1)) }
+        (P.told places.new) done.0.items (S.told done.1)) }
+    ensures room { IfOk result (λ done. HasRoom (S.told shelf) lines.now (P.told places.old) P.room
+        done.0.items) }
     ensures err { IfErr result (λ e. HasNotOpened (S.told shelf) (P.told places.old) (P.told places.new)
         e.0 (S.told e.1)) }
 {

@@ -1,5 +1,5 @@
 // A run of the program's words.
-ghost use Rattle.std.specs.Prelude.{true, ◌≡◌, ◌≤◌, map, string_bytes};
+ghost use Rattle.std.specs.Prelude.{false, ◌≡◌, ◌≤◌, map, string_bytes};
 ghost use Rattle.store_model.specs.Run.{IsRun};
 ghost use Rattle.store_model.specs.Ranges.{AreLimits};
 ghost use Rattle.store_model.specs.World.{world};
@@ -8,8 +8,8 @@ ghost use Rattle.command_runner.specs.Going.{BatchGoes};
 ghost use Rattle.command_runner.specs.Completes.{IsCompleteRun};
 
 use crate::backing::run_backup;
+use crate::beside::run_beside;
 use crate::filling::run_fill;
-use crate::opened::run_over;
 use command_runner::{Ended, ended_early, ended_lines, run_command};
 use keeper_store::KeeperStore;
 use pipe_backup::Course;
@@ -35,7 +35,7 @@ fn course_of(queue: u32, lanes: u32) -> Course
     }
 }
 
-// Reads the script from the input, and runs its lines.
+// Reads the script from the input, and runs its lines, with so many restores beside them at most.
 fn run_batch<
     's,
     E: 's,
@@ -50,6 +50,7 @@ fn run_batch<
     alloc: Global,
     scope: &'s Scope<'s, E>,
     course: Course,
+    workers: u32,
     limits: &Limits,
     shelf: S,
     places: &mut P,
@@ -59,10 +60,12 @@ fn run_batch<
 ) -> Ended<S, I, O>
 where
     P::Reader: Drop + 's,
+    P::Writer: Drop + 's,
     requires limits { AreLimits limits.now }
     requires queue { 1 ≤ course.queue }
     requires lanes { (1 ≤ course.lanes) × (course.lanes ≤ 8) }
-    ensures { BatchGoes true limits.now
+    requires workers { 1 ≤ workers }
+    ensures { BatchGoes false limits.now
         (world (S.told shelf) (P.told places.old) (I.told input) (O.told out) (R.told report.old))
         (world (S.told result.shelf) (P.told places.new)
         (I.told result.input) (O.told result.out) (R.told report.new))
@@ -72,12 +75,13 @@ where
     match read_lines(alloc, &mut input, limits) {
         Err(fault) => ended_early(alloc, fault, shelf, input, out, report),
         Ok(lines) => {
-            let ran = run_over(
+            let ran = run_beside(
                 rt,
                 alloc,
                 scope,
                 lines.as_slice(),
                 course,
+                workers,
                 limits,
                 shelf,
                 places,
@@ -111,8 +115,9 @@ fn run_words<
 ) -> Ended<S, I, O>
 where
     P::Reader: Drop + 's,
+    P::Writer: Drop + 's,
     requires { AreLimits limits.now }
-    ensures { IsRun true Unbuilt (map string_bytes words.now) limits.now
+    ensures { IsRun false Unbuilt (map string_bytes words.now) limits.now
         (world (S.told shelf) (P.told places.old) (I.told input) (O.told out) (R.told report.old))
         (world (S.told result.shelf) (P.told places.new)
         (I.told result.input) (O.told result.out) (R.told report.new))
@@ -145,11 +150,16 @@ where
             ),
             Some(_) => ended_early(alloc, Fault::Usage, shelf, input, out, report),
         },
-        Command::Batch { queue, lanes, .. } => run_batch(
+        Command::Batch {
+            queue,
+            lanes,
+            workers,
+        } => run_batch(
             rt,
             alloc,
             scope,
             course_of(queue, lanes),
+            workers,
             limits,
             shelf,
             places,
@@ -182,8 +192,8 @@ where
     }
 }
 
-/// Runs the command that the words are; the streams of backups pass through stages in threads of the scope, a stage whose
-/// thread is refused in this one. What ends the run before its first line is told on `report`: `Usage` where the words are
+/// Runs the command that the words are; the streams of backups pass through stages in threads of the scope, and restores of a
+/// script run in threads beside its later lines; a stage whose thread is refused runs in this one. What ends the run before its first line is told on `report`: `Usage` where the words are
 /// no command, or one that is not built yet; the faults of reading a script; and those of opening the shelf. A line that is
 /// refused has its fault as its answer. The report is on `out`, and on `report` where `out` gets a version; one that could
 /// not be written is a `WriteFault`, and what was done stands.
@@ -210,8 +220,9 @@ pub fn run_threaded<
 ) -> Ended<S, I, O>
 where
     P::Reader: Drop + 's,
+    P::Writer: Drop + 's,
     requires { AreLimits limits.now }
-    ensures run { IsRun true Unbuilt (map string_bytes words.now) limits.now
+    ensures run { IsRun false Unbuilt (map string_bytes words.now) limits.now
         (world (S.told shelf) (P.told places.old) (I.told input) (O.told out) (R.told report.old))
         (world (S.told result.shelf) (P.told places.new)
         (I.told result.input) (O.told result.out) (R.told report.new))

@@ -20,4 +20,4 @@ run_over-ran-requires-clause-ranges g c κs within =
 pub returns : goal.returns
 returns g c p =
     let are = c.as_slice-script.ensures.value ∙ c.in-Ok.ensures.lines in
-    c.ended_fill.ensures true c.args.seed c.args.versions (g.S.Shelf.told c.args.shelf) c.args.limits.now c.in-Ok.made.1 p are c.in-Ok.ensures.places c.run_over-ran.ensures.ok c.run_over-ran.ensures.err
+    c.ended_fill.ensures true c.args.seed c.args.versions (g.S.Shelf.told c.args.shelf) c.args.limits.now c.in-Ok.made.1 p are c.in-Ok.ensures.places c.run_over-ran.ensures.ok c.run_over-ran.ensures.room c.run_over-ran.ensures.err

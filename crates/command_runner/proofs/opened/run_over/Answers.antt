@@ -19,5 +19,7 @@ returns-in-Ok-script_plain-clause-ok g c =
       runs = subst (λ (t : ShelfTold). RunsLines true (Begins old) (StraysOf old) c.args.limits.now c.args.lines.now done.answers.items old t p q) (sym c.close-in-Ok-script_plain.ensures)
           (runs_opened true c.args.limits.now c.args.lines.now done.answers.items old (g.K.StateKeeper.shelf c.in-Ok.store) (g.K.StateKeeper.shelf done.store) p q (λ (T : State). g.K.StateKeeper.keeps c.in-Ok.store T None) (Begins old)
           (λ (T : State). g.K.StateKeeper.strays c.in-Ok.store) (StraysOf old) c.in-Ok.ensures.same c.in-Ok.ensures.keeps c.in-Ok.ensures.strays c.in-Ok-script_plain.ensures.runs);
-      enough = λ T sources begins fed told. c.in-Ok-script_plain.ensures.room T sources (c.in-Ok.ensures.keeps T begins) fed told;
     }
+
+pub returns-in-Ok-script_plain-clause-room : goal.returns-in-Ok-script_plain-clause-room
+returns-in-Ok-script_plain-clause-room g c T sources begins fed told = c.in-Ok-script_plain.ensures.room T sources (c.in-Ok.ensures.keeps T begins) fed told

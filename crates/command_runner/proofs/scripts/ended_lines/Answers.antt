@@ -9,7 +9,7 @@ use Rattle.command_runner.proofs.Openings.{if_err, if_ok, not_opened, ran}
 use Rattle.command_runner.proofs.scripts.ended_lines.Goals as goal
 
 pub returns-in-Err : goal.returns-in-Err
-returns-in-Err g c in_order old limits lines p q room ok err =
+returns-in-Err g c in_order old limits lines p q ok err =
     let s = g.S.Shelf.told in
     let i = g.I.Source.told in
     let o = g.O.Sink.told in
@@ -24,7 +24,7 @@ returns-in-Err g c in_order old limits lines p q room ok err =
     e.fault e.none h.places (ap i e.input) (ap o e.out) e.line e.status
 
 pub returns-in-Ok : goal.returns-in-Ok
-returns-in-Ok g c in_order old limits lines p q room ok err =
+returns-in-Ok g c in_order old limits lines p q ok err =
     let s = g.S.Shelf.told in
     let i = g.I.Source.told in
     let o = g.O.Sink.told in
@@ -35,7 +35,7 @@ returns-in-Ok g c in_order old limits lines p q room ok err =
     let before : World = world old p (i c.args.input) (o c.args.out) r in
     let now : World = world (s c.in-Ok.shelf) q (i c.args.input) (o c.print_all-fault.new.out) r in
     let printed : IsPrinted (report_text c.in-Ok.answers.items) before.out now.out f = subst (λ (l : List Answer). IsPrinted (report_text l) before.out now.out f) c.as_slice.ensures.value c.print_all-fault.ensures.printed in
-    let h : HasRun in_order old limits lines p q room c.in-Ok.answers.items (s c.in-Ok.shelf) = if_ok _ c.args.ran (c.in-Ok.answers, c.in-Ok.shelf) c.in-Ok.is ok in
+    let h : HasRun in_order old limits lines p q c.in-Ok.answers.items (s c.in-Ok.shelf) = if_ok _ c.args.ran (c.in-Ok.answers, c.in-Ok.shelf) c.in-Ok.is ok in
     let runs : RanLines in_order lines limits before now c.in-Ok.answers.items f = record { runs = h.runs; printed = printed; report = refl; input = refl } in
     ran (RanLines in_order lines limits) before now (world (s done.shelf) q (i done.input) (o done.out) r) c.in-Ok.answers.items done.answers.items f done.fault done.status
     (λ j. world (s (e.shelf j)) q (i (e.input j)) (o (e.out j)) r) e.answers e.fault e.status h.opened runs

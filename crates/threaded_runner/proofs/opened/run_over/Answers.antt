@@ -20,5 +20,7 @@ returns-in-Ok-script_piped-clause-ok g c =
       runs = subst (λ (t : ShelfTold). RunsLines true (Begins old) (StraysOf old) c.args.limits.now c.args.lines.now done.answers.items old t p q) (sym c.close-in-Ok-script_piped.ensures)
           (runs_opened true c.args.limits.now c.args.lines.now done.answers.items old c.in-Ok.store.told done.store.told p q (λ (T : State). IsStateOf c.in-Ok.store T None) (Begins old)
           (λ (T : State). IsKnownStray c.in-Ok.store) (StraysOf old) c.in-Ok.ensures.same c.in-Ok.ensures.keeps c.in-Ok.ensures.strays c.in-Ok-script_piped.ensures.runs);
-      enough = λ T sources begins fed told. c.in-Ok-script_piped.ensures.room T sources (c.in-Ok.ensures.keeps T begins) fed told;
     }
+
+pub returns-in-Ok-script_piped-clause-room : goal.returns-in-Ok-script_piped-clause-room
+returns-in-Ok-script_piped-clause-room g c T sources begins fed told = c.in-Ok-script_piped.ensures.room T sources (c.in-Ok.ensures.keeps T begins) fed told

@@ -1,0 +1,6 @@
+pub mod Apart
+pub mod Held
+pub mod Going
+pub mod Backed
+pub mod Answered
+pub mod Refused

@@ -1,0 +1,7 @@
+pub mod Alone
+pub mod Replies
+pub mod Came
+pub mod Gone
+pub mod Ends
+pub mod Closes
+pub mod Wanted

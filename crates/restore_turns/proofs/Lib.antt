@@ -1,0 +1,5 @@
+pub mod Loads
+pub mod Leaves
+pub mod Turns
+pub mod Begins
+pub mod Pinned

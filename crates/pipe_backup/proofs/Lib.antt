@@ -1,5 +1,4 @@
 pub mod Flows
-pub mod Handing
 pub mod Fills
 pub mod Backs
 pub mod Starts

@@ -32,7 +32,6 @@ fn course_of(queue: u32, lanes: u32) -> Course
         queue,
         lanes,
         stacks: StackSizes::usual(),
-        seal: None,
     }
 }
 

@@ -142,15 +142,22 @@ pub record IsStopped (b : Began) (now : View) (to : SourceTold) (f : Fault) : Ty
   pub underway : IsUnderway b now containers
   pub cause : IsBackupFault b.config b.limits b.keeper.told.faults now.told.faults b.source to read f
 
--- these parts went into the filler, and the containers that it gave out are put
-pub record HasFilledParts (b : Began) (now : View) (f : Filling) (lens : List ℕ)
-    (parts : List (NamedChunk × How)) : Type 0 where
-  pub containers : List Container
+-- the job has put these containers, and no mending is due
+pub record HasPut (b : Began) (now : View) (lens : List ℕ) (containers : List Container) : Type 0 where
   pub underway : IsUnderway b now containers
   pub waits : now.pending ≡ pending.Not
   pub named : AreNamed b.keeper now containers
   pub lens_are : lens ≡ map len_of containers
-  pub filled : HasFilled f b.first containers (map (λ p. p.0) parts) (map (λ p. p.1) parts)
+
+-- they are numbered as the job's, and are no more than its limit of chunks
+pub record AreOfJob (b : Began) (containers : List Container) : Type 0 where
+  pub numbered : AreNumbered b.first containers
+  pub few : length containers ≤ b.limits.chunks
+
+-- these parts went into the filler, and it gave out these containers
+pub record HasFilledParts (b : Began) (f : Filling) (gone : List Container) (parts : List (NamedChunk × How))
+    : Type 0 where
+  pub filled : HasFilled f b.first gone (map (λ p. p.0) parts) (map (λ p. p.1) parts)
   pub capacity : f.capacity ≡ b.config.container
   pub cuttable : IsCuttable b.config.cutting
   pub few : length parts ≤ b.limits.chunks

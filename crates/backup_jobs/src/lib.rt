@@ -11,4 +11,4 @@ mod sparse;
 pub use closing::{Rest, StreamEnd, close_job};
 pub use filling::{finish_parts, take_part};
 pub use opening::{Job, Opened, open_job};
-pub use putting::put_all;
+pub use putting::{put_all, put_one};

@@ -18,8 +18,8 @@ fn payload_len(sealed: &Sealed) -> u32
     sealed.payload().len() as u32
 }
 
-// Puts a container, and notes how many bytes it has.
-pub(crate) fn put_one<S: Shelf>(
+/// Puts the next container of a job, and notes how many bytes it has. `Memory`, `StoreFault`.
+pub fn put_one<S: Shelf>(
     alloc: Global,
     keeper: &mut Keeper<S>,
     sealed: Sealed,

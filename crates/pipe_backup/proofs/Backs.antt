@@ -1,5 +1,6 @@
 -- What a job's end tells of the stream.
 use Rattle.std.proofs.Common.{◌≡◌, ◌⊎◌, inl, inr, ⊎_elim, ℕ, ◌<◌, ◌≤◌, List, ◌++◌, length, map, refl, sym, ap, ◌∙◌, subst, Option, Some, None, arith, length-append, Bool, true, false}
+use Rattle.std.specs.Prelude.{Result, Ok, Err}
 use Rattle.std.specs.List.{concat, AllByRecursion}
 use Rattle.std.proofs.lemmas.List.{length-map}
 use Rattle.std.proofs.lemmas.List.Folds.{concat-append}
@@ -32,8 +33,9 @@ use Rattle.backup_jobs.specs.Backup.{IsBackupFault}
 use Rattle.backup_jobs.specs.declared.closing.Rest.{Rest}
 use Rattle.backup_jobs.specs.Going.{Began, IsUnderway, IsPutStop, IsStopped, HasPutAll, HasReadAll, part_of, rules_of, chunks_of}
 use Rattle.backup_jobs.proofs.Causes.{put_is_cause}
-use Rattle.pipe_backup.specs.declared.filling.Outcome.{Outcome}
-use Rattle.pipe_backup.specs.declared.filling.Outcome.TheVariants as outcome
+use Rattle.seal_lane.specs.Lanes.{SealView}
+use Rattle.pipe_backup.specs.declared.sealing.Halt.{Halt}
+use Rattle.pipe_backup.specs.declared.sealing.Halt.TheVariants as halt
 use Rattle.pipe_backup.specs.Piping.{ComesTo, IsFilledFrom, IsJobFor, as_begun}
 use Rattle.pipe_backup.proofs.Flows.{bytes_run, last_cause, named_run}
 
@@ -151,25 +153,28 @@ back_for {I} b told from j to sum raised is same back =
     (λ i. (cutting i, index i, rules i, limit i, source i)) back
 
 -- what the filling came to, when the job is back
-pub over_put : {I : Type 0} (b : Began) (now : View) (lens : List ℕ) (from j : JobView I) (to : SourceTold) (sum : Fp) (raised : Bool) (o : Outcome) (r : Rest)
+pub over_put : {I : Type 0} (b : Began) (now : View) (lens : List ℕ) (from j : JobView I) (s : SealView) (to : SourceTold) (sum : Fp) (raised : Bool) (o : Result Rest Halt) (r : Rest)
     → IsCuttable b.config.cutting → IsJobBack b.config.cutting (found_in b.index) (rules_of b) b.limits.chunks b.source to j.taken sum j.stopped raised
-    → IsFilledFrom b now lens from j o → o ≡ outcome.Put r → HasReadAll b now to lens (record { rest = r; whole = sum })
-over_put b now lens from j to sum raised o r can back filled is =
-    let comes : ComesTo b now lens from j filled.parts filled.l (outcome.Put r) = subst (ComesTo b now lens from j filled.parts filled.l) is filled.comes in
-    ended_back b now lens to j.taken sum j.stopped raised can back filled.parts filled.l r filled.taken_are comes.0 comes.1
+    → IsFilledFrom b now lens from j s o → o ≡ Ok r → IsFront s.back s.given → HasReadAll b now to lens (record { rest = r; whole = sum })
+over_put b now lens from j s to sum raised o r can back filled is front =
+    let comes : ComesTo b now lens from j s filled.parts filled.l (Ok r) = subst (ComesTo b now lens from j s filled.parts filled.l) is filled.comes in
+    ended_back b now lens to j.taken sum j.stopped raised can back filled.parts filled.l r filled.taken_are comes.0 (comes.1 front)
 
-pub over_failed : {I : Type 0} (b : Began) (now : View) (lens : List ℕ) (from j : JobView I) (to : SourceTold) (sum : Fp) (raised : Bool) (o : Outcome) (f : Fault)
+pub over_failed : {I : Type 0} (b : Began) (now : View) (lens : List ℕ) (from j : JobView I) (s : SealView) (to : SourceTold) (sum : Fp) (raised : Bool) (o : Result Rest Halt) (h : Halt) (f : Fault)
     → IsCuttable b.config.cutting → IsJobBack b.config.cutting (found_in b.index) (rules_of b) b.limits.chunks b.source to j.taken sum j.stopped raised
-    → IsFilledFrom b now lens from j o → o ≡ outcome.Failed f → IsStopped b now to f
-over_failed b now lens from j to sum raised o f can back filled is =
-    stopped_back b now lens to j.taken sum j.stopped raised can back filled.parts filled.l f filled.taken_are (subst (ComesTo b now lens from j filled.parts filled.l) is filled.comes)
+    → IsFilledFrom b now lens from j s o → o ≡ Err h → h ≡ halt.Failed f → IsStopped b now to f
+over_failed b now lens from j s to sum raised o h f can back filled is failed =
+    stopped_back b now lens to j.taken sum j.stopped raised can back filled.parts filled.l f filled.taken_are (subst (ComesTo b now lens from j s filled.parts filled.l) (is ∙ ap (λ k. Err k) failed) filled.comes)
 
-pub never_over : {I : Type 0} (b : Began) (now : View) (lens : List ℕ) (from j : JobView I) (to : SourceTold) (sum : Fp) (raised : Bool) (o : Outcome)
+pub never_over : {I : Type 0} (b : Began) (now : View) (lens : List ℕ) (from j : JobView I) (s : SealView) (to : SourceTold) (sum : Fp) (raised : Bool) (o : Result Rest Halt) (h : Halt)
     → IsCuttable b.config.cutting → IsJobBack b.config.cutting (found_in b.index) (rules_of b) b.limits.chunks b.source to j.taken sum j.stopped raised
-    → from.stopped ≡ false → IsFilledFrom b now lens from j o → o ≡ outcome.Never → ⊥
-never_over b now lens from j to sum raised o can back going filled is =
-    let comes : ComesTo b now lens from j filled.parts filled.l outcome.Never = subst (ComesTo b now lens from j filled.parts filled.l) is filled.comes in
+    → from.stopped ≡ false → IsFilledFrom b now lens from j s o → o ≡ Err h → h ≡ halt.Never → IsFront s.back s.given → ⊥
+never_over b now lens from j s to sum raised o h can back going filled is never front =
+    let comes : ComesTo b now lens from j s filled.parts filled.l (Err halt.Never) = subst (ComesTo b now lens from j s filled.parts filled.l) (is ∙ ap (λ k. Err k) never) filled.comes in
     ⊎_elim
     (λ (many : b.limits.chunks < length filled.parts). never_more b now lens to j.taken sum j.stopped raised can back filled.parts filled.l filled.taken_are many)
+    (λ (other : ((filled.l ≡ last.Stopped) × (j.stopped ≡ from.stopped)) ⊎ (IsFront s.back s.given → ⊥)). ⊎_elim
     (λ (stop : (filled.l ≡ last.Stopped) × (j.stopped ≡ from.stopped)). never_stopped b now lens to j.taken sum j.stopped raised can back filled.parts filled.l filled.taken_are stop.0 (stop.1 ∙ going))
+    (λ (no_front : IsFront s.back s.given → ⊥). no_front front)
+    other)
     comes

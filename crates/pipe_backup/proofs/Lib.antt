@@ -1,4 +1,5 @@
 pub mod Flows
+pub mod Handing
 pub mod Fills
 pub mod Backs
 pub mod Starts

@@ -8,6 +8,7 @@ use Rattle.vault_traits.specs.Told.{SourceTold}
 use Rattle.container_fill.specs.Filling.{Filling, HasFilled}
 use Rattle.keeper_catalog.specs.View.{View}
 use Rattle.pipe_run.specs.Jobs.{JobView}
+use Rattle.seal_lane.specs.Lanes.{SealView}
 use Rattle.backup_jobs.specs.declared.opening.Opened.{Opened}
 use Rattle.backup_jobs.specs.Going.{IsOpened, IsStopped, began_with}
 use Rattle.backup_jobs.proofs.Causes.{gives_none}
@@ -16,20 +17,19 @@ use Rattle.pipe_backup.specs.Piping.{IsToFill, IsJobFor}
 module _ (s : ℕ) (config : JobConfig) (limits : Limits) (before now : View) (from : SourceTold) (o : Opened) (h : IsOpened s config limits before now from o) where
   -- a new filler is to be filled
   pub to_fill : IsCuttable config.cutting → (f : Filling) → HasFilled f o.job.first [] [] [] → f.capacity ≡ config.container → (lens : List ℕ) → lens ≡ []
-      → IsToFill (began_with s config limits before from o) now f lens limits.chunks
-  to_fill can f filled capacity lens none = record {
-    filled = record {
-      containers = [];
-      underway = h.underway;
-      waits = h.waits;
-      named = h.named;
-      lens_are = none;
-      filled = filled;
-      capacity = capacity;
-      cuttable = can;
-      few = omega arith;
+      → (lane : SealView) → lane ≡ record { given = []; back = [] } → IsToFill (began_with s config limits before from o) now f lens lane (record { first = o.job.first; limit = limits.chunks })
+  to_fill can f filled capacity lens none lane new = record {
+    filling = record {
+      gone = [];
+      filled = record { filled = filled; capacity = capacity; cuttable = can; few = omega arith };
+      handed = record {
+        put = [];
+        given_are = ap (λ (v : SealView). v.given) new;
+        back_are = ap (λ (v : SealView). v.back) new;
+        all = record { underway = h.underway; waits = h.waits; named = h.named; lens_are = none };
+      };
     };
-    limit_is = refl;
+    span_is = record { first = refl; limit = refl };
   }
 
   -- there was no memory for its stages

@@ -16,11 +16,12 @@ use vault_ports::{FaultShelf, FaultSource, MemShelf, MemSource};
 use vault_traits::Shelf;
 use vault_types::{Answer, Cutting, Fault, JobConfig, Limits, Rewrite};
 
-// How a stream is cut, and what is written again: nothing; what a segment refers to beside one container; or that and what
-// is in containers of which a version uses less than 60 hundredths.
+// How a stream is cut and packed, and what is written again: nothing; what a segment refers to beside one container; or that
+// and what is in containers of which a version uses less than 60 hundredths. A single chunk is a container by itself.
 #[derive(Clone, Copy)]
 enum Kind {
     Fixed,
+    Single,
     Extremum,
     Capped,
     Sparse,
@@ -54,6 +55,7 @@ fn settings(kind: Kind) -> JobConfig
     config.rewrite = Rewrite::Off;
     match kind {
         Kind::Fixed => {}
+        Kind::Single => config.container = 1_000,
         Kind::Extremum => {
             config.cutting = Cutting::Ae {
                 window: 128,
@@ -217,6 +219,7 @@ fn course_of(queue: u32, lanes: u32) -> Course
         queue,
         lanes,
         stacks: StackSizes::usual(),
+        seal: None,
     }
 }
 
@@ -238,6 +241,35 @@ fn is_as_one<R: Threads + Wait + Clock + Copy + Drop + Send>(
     Ok(other.first == first && other.second == second && is_same)
 }
 
+// The same where an allocation may fail: a version that memory failed is none, and the next one is stored as without it. The
+// strays of a second one stay.
+fn is_as_one_without<R: Threads + Wait + Clock + Copy + Drop + Send>(
+    rt: R,
+    alloc: Global,
+    case: Case,
+    course: Course,
+) -> Result<bool, Fail>
+    requires queue { 1 ≤ course.queue }
+    requires lanes { (1 ≤ course.lanes) × (course.lanes ≤ 8) }
+{
+    let other = piped(rt, alloc, case, course)?;
+    let mut one = opened(alloc, case)?;
+    if other.first != Err(Fault::Memory) {
+        let first = serial(alloc, &mut one, case, 1)?;
+        if first != other.first {
+            return Ok(first == Err(Fault::Memory));
+        }
+    }
+    if other.second == Err(Fault::Memory) {
+        return Ok(true);
+    }
+    let second = serial(alloc, &mut one, case, 2)?;
+    if second != other.second {
+        return Ok(second == Err(Fault::Memory));
+    }
+    are_same(alloc, &other.shelf, &one.close().into_inner())
+}
+
 // What a first version in threads answers.
 fn answer_of<R: Threads + Wait + Clock + Copy + Drop + Send>(
     rt: R,
@@ -257,6 +289,12 @@ fn backups_store_what_one_thread_stores(rt: HostRuntime) -> Result<(), Fail> {
             );
         }
     }
+    Ok(())
+}
+
+#[test]
+fn a_backup_that_memory_failed_is_none(rt: HostRuntime) -> Result<(), Fail> {
+    assert!(rt; is_as_one_without(rt, rt.alloc(), WHOLE, course_of(2, 2))?);
     Ok(())
 }
 
@@ -300,7 +338,7 @@ fn made_backups_store_what_one_thread_stores(rt: HostRuntime) -> Result<(), Fail
 
 #[test]
 fn backups_of_each_kind_store_what_one_thread_stores(rt: HostRuntime) -> Result<(), Fail> {
-    for kind in [Kind::Extremum, Kind::Capped, Kind::Sparse] {
+    for kind in [Kind::Single, Kind::Extremum, Kind::Capped, Kind::Sparse] {
         let mut case = WHOLE;
         case.kind = kind;
         assert!(rt; is_as_one(rt, rt.alloc(), case, course_of(4, 2))?);
@@ -356,6 +394,21 @@ fn a_shelf_that_fails_is_told_as_on_one_thread(rt: HostRuntime) -> Result<(), Fa
     Ok(())
 }
 
+#[test]
+fn a_shelf_that_fails_while_containers_are_sealed(rt: HostRuntime) -> Result<(), Fail> {
+    for place in 0..12u64 {
+        let call = 7 * place + 3;
+        let mut case = WHOLE;
+        case.kind = Kind::Single;
+        case.call = call;
+        assert!(rt;
+            is_as_one(rt, rt.alloc(), case, course_of(1, 2))?,
+            "call {call}"
+        );
+    }
+    Ok(())
+}
+
 // A stack that no host gives to a thread, or the usual one.
 fn size(is_refused: bool) -> Option<usize> {
     if is_refused { Some(usize::MAX) } else { None }
@@ -363,13 +416,14 @@ fn size(is_refused: bool) -> Option<usize> {
 
 #[test]
 fn a_backup_whose_threads_are_refused(rt: HostRuntime) -> Result<(), Fail> {
-    for (read, sum, chunk, decide, lanes) in [
-        (true, false, false, false, false),
-        (false, true, false, false, false),
-        (false, false, true, false, false),
-        (false, false, false, true, false),
-        (false, false, false, false, true),
-        (true, true, true, true, true),
+    for (read, sum, chunk, decide, lanes, seal) in [
+        (true, false, false, false, false, false),
+        (false, true, false, false, false, false),
+        (false, false, true, false, false, false),
+        (false, false, false, true, false, false),
+        (false, false, false, false, true, false),
+        (false, false, false, false, false, true),
+        (true, true, true, true, true, true),
     ] {
         let mut course = course_of(2, 2);
         course.stacks = StackSizes {
@@ -379,9 +433,12 @@ fn a_backup_whose_threads_are_refused(rt: HostRuntime) -> Result<(), Fail> {
             decide: size(decide),
             lanes: size(lanes),
         };
+        course.seal = size(seal);
+        let mut case = WHOLE;
+        case.kind = Kind::Single;
         assert!(rt;
-            is_as_one(rt, rt.alloc(), WHOLE, course)?,
-            "refused: {read} {sum} {chunk} {decide} {lanes}"
+            is_as_one(rt, rt.alloc(), case, course)?,
+            "refused: {read} {sum} {chunk} {decide} {lanes} {seal}"
         );
     }
     Ok(())

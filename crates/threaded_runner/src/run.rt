@@ -32,6 +32,7 @@ fn course_of(queue: u32, lanes: u32) -> Course
         queue,
         lanes,
         stacks: StackSizes::usual(),
+        seal: None,
     }
 }
 

@@ -228,29 +228,57 @@ not_refused a f e = cc
 same_fault : (f g : Fault) → ◌≡◌ {A = Result Answer Fault} (Err f) (Err g) → f ≡ g
 same_fault f g e = cc
 
+-- what a backup ensures of its line whatever the steps are told of
+module _ (Before After : State → Option Change → Type 0) (u v : View) (s : ℕ) (config : JobConfig) (limits : Limits) (from to : SourceTold) (core : HasCore u) where
+  Stepping : (read : List ℕ) → Answer → Type 0
+  Stepping read a = (S : State) (other : Option Change) → Before S other
+      → (next : Option Change) × After (after (λ _. unwrap_or from.left read) S (Backup s [] config) a) next
+      × StepsOn limits (λ _. unwrap_or from.left read) S other (Backup s [] config) a next (IsKnownStray u) (IsKnownStray v) u.told v.told
+
+  answer_of : Result Answer Fault → Answer
+  answer_of (Ok a) = a
+  answer_of (Err f) = Refused f
+
+  backs_up_with : (result : Result Answer Fault) → (h : BacksUp s config limits u v from to result) → Stepping h.read (answer_of result) → BacksUpLine Before After (IsKnownStray u) (IsKnownStray v) limits s config u.told v.told from to result
+  backs_up_with (Ok a) h steps = record {
+    read = h.read;
+    given = h.given;
+    within = h.within;
+    too_many = λ n e. absurd (not_refused a (fault.TooMany n) e);
+    done = ap is_refused (h.answer core.0 core.1);
+    kind = kind_done limits core.0.state s h.read config a (h.answer core.0 core.1);
+    causes = causes_done u v from to core.0.state s h.read config a (h.answer core.0 core.1) h.store_later h.source_later;
+    steps = steps;
+    to_the_end = h.to_the_end;
+  }
+  backs_up_with (Err f) h steps = record {
+    read = h.read;
+    given = h.given;
+    within = h.within;
+    too_many = λ n e. many_read s config limits u v from to h.read core.0 n (subst (IsCauseOf s config limits u v from to h.read core.0) (same_fault f (fault.TooMany n) e) (h.causes core.0 core.1));
+    done = tt;
+    kind = kind_err limits s config u v from to h.read core.0 f (h.causes core.0 core.1);
+    causes = cause_err s config limits u v from to h.read h.store_later h.source_later core.0 f (h.causes core.0 core.1);
+    steps = steps;
+    to_the_end = tt;
+  }
+
+-- the steps in a state that is kept with some pins
+line_goes : (u v : View) (s : ℕ) (config : JobConfig) (limits : Limits) (from to : SourceTold) (result : Result Answer Fault) → IsCuttable config.cutting → (h : BacksUp s config limits u v from to result)
+    → (ps : List Pin) (S : State) (other : Option Change) → IsStateWith u ps S other → Goes u v ps s config limits from to (unwrap_or from.left h.read) v S other (answer_of result)
+line_goes u v s config limits from to (Ok a) can h ps S other here = goes_from u v ps s config limits from to (unwrap_or from.left h.read) S other a here
+    (done_goes u v ps s config limits from to (unwrap_or from.left h.read) can here.core here.keeps here.pins here.told (changed_of u S other here) (images_of u S other here) a h (is_all from.left h.read))
+line_goes u v s config limits from to (Err f) can h ps S other here = goes_from u v ps s config limits from to (unwrap_or from.left h.read) S other (Refused f) here
+    (refused_goes u v ps s config limits from to (unwrap_or from.left h.read) can here.core here.keeps here.pins here.told (changed_of u S other here) (images_of u S other here) f here.job h (is_all from.left h.read))
+
 pub backs_up_line : (u v : View) (s : ℕ) (config : JobConfig) (limits : Limits) (from to : SourceTold) (result : Result Answer Fault) → HasCore u → IsCuttable config.cutting → BacksUp s config limits u v from to result
     → (ps : List Pin) → BacksUpLine (IsStateWith u ps) (IsStateWith v ps) (IsKnownStray u) (IsKnownStray v) limits s config u.told v.told from to result
-backs_up_line u v s config limits from to (Ok a) core can h ps = record {
-  read = h.read;
-  given = h.given;
-  within = h.within;
-  too_many = λ n e. absurd (not_refused a (fault.TooMany n) e);
-  done = ap is_refused (h.answer core.0 core.1);
-  kind = kind_done limits core.0.state s h.read config a (h.answer core.0 core.1);
-  causes = causes_done u v from to core.0.state s h.read config a (h.answer core.0 core.1) h.store_later h.source_later;
-  steps = λ S other here. goes_from u v ps s config limits from to (unwrap_or from.left h.read) S other a here
-      (done_goes u v ps s config limits from to (unwrap_or from.left h.read) can here.core here.keeps here.pins here.told (changed_of u S other here) (images_of u S other here) a h (is_all from.left h.read));
-  to_the_end = h.to_the_end;
-}
-backs_up_line u v s config limits from to (Err f) core can h ps = record {
-  read = h.read;
-  given = h.given;
-  within = h.within;
-  too_many = λ n e. many_read s config limits u v from to h.read core.0 n (subst (IsCauseOf s config limits u v from to h.read core.0) (same_fault f (fault.TooMany n) e) (h.causes core.0 core.1));
-  done = tt;
-  kind = kind_err limits s config u v from to h.read core.0 f (h.causes core.0 core.1);
-  causes = cause_err s config limits u v from to h.read h.store_later h.source_later core.0 f (h.causes core.0 core.1);
-  steps = λ S other here. goes_from u v ps s config limits from to (unwrap_or from.left h.read) S other (Refused f) here
-      (refused_goes u v ps s config limits from to (unwrap_or from.left h.read) can here.core here.keeps here.pins here.told (changed_of u S other here) (images_of u S other here) f here.job h (is_all from.left h.read));
-  to_the_end = tt;
-}
+backs_up_line u v s config limits from to result core can h ps =
+    backs_up_with (IsStateWith u ps) (IsStateWith v ps) u v s config limits from to core result h (line_goes u v s config limits from to result can h ps)
+
+-- the bytes that were read are the same with any pins
+pub backs_up_beside : (u v : View) (s : ℕ) (config : JobConfig) (limits : Limits) (from to : SourceTold) (result : Result Answer Fault) → HasCore u → IsCuttable config.cutting → BacksUp s config limits u v from to result
+    → BacksUpLine (λ S other. (ps : List Pin) × IsStateWith u ps S other) (λ S other. (ps : List Pin) × IsStateWith v ps S other) (IsKnownStray u) (IsKnownStray v) limits s config u.told v.told from to result
+backs_up_beside u v s config limits from to result core can h =
+    backs_up_with (λ S other. (ps : List Pin) × IsStateWith u ps S other) (λ S other. (ps : List Pin) × IsStateWith v ps S other) u v s config limits from to core result h
+    (λ S other here. let goes = line_goes u v s config limits from to result can h here.0 S other here.1 in (goes.0, (here.0, goes.1), goes.2))

@@ -19,7 +19,7 @@ use Rattle.backup_jobs.specs.Backup.{BacksUp}
 use Rattle.pin_laws.proofs.Calls.{still}
 use Rattle.restore_turns.specs.Entry.{IsStateBeside}
 use Rattle.beside_steps.specs.Holding.{BesideView, Holds}
-use Rattle.beside_steps.proofs.Backed.{backs_up_beside}
+use Rattle.backup_lines.proofs.Lines.{backs_up_beside}
 use Rattle.beside_steps.proofs.Held.{holds_still, told_kept}
 
 abbrev pub told_of : View → ShelfTold

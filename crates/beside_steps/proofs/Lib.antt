@@ -1,6 +1,5 @@
 pub mod Apart
 pub mod Held
 pub mod Going
-pub mod Backed
 pub mod Answered
 pub mod Refused

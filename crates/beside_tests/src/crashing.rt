@@ -2,7 +2,10 @@
 use crate::running::Left;
 use crate::two_restores::{are_kept, are_restored, run_script};
 use std::alloc::Global;
+use std::sync::Wait;
 use std::test::Fail;
+use std::thread::Threads;
+use std::time::Clock;
 use vault_ports::{CrashShelf, MemShelf};
 
 // One call more than the script makes where none fails.
@@ -10,7 +13,12 @@ const BEYOND: u64 = 47;
 
 // Whether each restore has its version, or a front of it; and whether the store opens with what was
 // stored behind a crash, at which these of the writes that were not settled are done.
-fn ends_well(rt: HostRuntime, alloc: Global, stop: u64, taken: u64) -> Result<bool, Fail> {
+fn ends_well<R: Threads + Wait + Clock + Copy + Drop + Send>(
+    rt: R,
+    alloc: Global,
+    stop: u64,
+    taken: u64,
+) -> Result<bool, Fail> {
     let shelf = CrashShelf::new(alloc, MemShelf::new(alloc), stop)?;
     let Left {
         answers,
@@ -24,7 +32,10 @@ fn ends_well(rt: HostRuntime, alloc: Global, stop: u64, taken: u64) -> Result<bo
 
 // Says at which stop, and with which writes, the script does not end as it should. The first call
 // opens the store.
-fn each_stop(rt: HostRuntime, alloc: Global) -> Result<(), Fail> {
+fn each_stop<R: Threads + Wait + Clock + Copy + Drop + Send>(
+    rt: R,
+    alloc: Global,
+) -> Result<(), Fail> {
     for stop in 2..=BEYOND {
         for taken in [0, 1, 2, 5, 255] {
             if !ends_well(rt, alloc, stop, taken)? {

@@ -2,7 +2,10 @@
 // its floor, so all but its first payloads are loaded behind that.
 use crate::running::{File, Left, lines_of, run_gated};
 use std::alloc::Global;
+use std::sync::Wait;
 use std::test::Fail;
+use std::thread::Threads;
+use std::time::Clock;
 use vault_types::{Kind, Name};
 
 const EIGHT: &[u8] = b"aaaabbbbccccddddeeeeffffgggghhhh";
@@ -46,7 +49,10 @@ const DELETED_WHILE_IT_RUNS_TEXT: &[u8] =
 
 // Whether the answers are those of one line after another, whether the version is whole, and whether
 // nothing is left of it on the shelf.
-fn deleted_while_it_runs(rt: HostRuntime, alloc: Global) -> Result<(bool, bool, bool), Fail> {
+fn deleted_while_it_runs<R: Threads + Wait + Clock + Copy + Drop + Send>(
+    rt: R,
+    alloc: Global,
+) -> Result<(bool, bool, bool), Fail> {
     let Left {
         answers,
         shelf,
@@ -91,7 +97,10 @@ const RELEASED_BY_ANOTHER_TEXT: &[u8] =
     delete 2: floor 3, 2 containers reclaimed\n";
 
 // The same of two restores of one version, and how many payloads were got.
-fn released_by_another(rt: HostRuntime, alloc: Global) -> Result<(bool, bool, bool, u64), Fail> {
+fn released_by_another<R: Threads + Wait + Clock + Copy + Drop + Send>(
+    rt: R,
+    alloc: Global,
+) -> Result<(bool, bool, bool, u64), Fail> {
     let Left {
         answers,
         shelf,

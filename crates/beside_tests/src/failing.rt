@@ -2,7 +2,10 @@
 use crate::running::Left;
 use crate::two_restores::{are_kept, are_restored, other_answers, run_script, store_faults};
 use std::alloc::Global;
+use std::sync::Wait;
 use std::test::Fail;
+use std::thread::Threads;
+use std::time::Clock;
 use vault_ports::{FaultShelf, MemShelf};
 use vault_traits::Shelf;
 
@@ -14,7 +17,12 @@ const STORED: u64 = 20;
 
 // Whether a failing call is told to one line at most, and each restore has its version, or a front of
 // it; and whether the store then opens with what was stored.
-fn ends_well(rt: HostRuntime, alloc: Global, call: u64, keep: bool) -> Result<bool, Fail> {
+fn ends_well<R: Threads + Wait + Clock + Copy + Drop + Send>(
+    rt: R,
+    alloc: Global,
+    call: u64,
+    keep: bool,
+) -> Result<bool, Fail> {
     let shelf = FaultShelf::new(MemShelf::new(alloc), [call].to_vec(alloc)?, keep);
     let Left {
         answers,
@@ -35,7 +43,10 @@ fn ends_well(rt: HostRuntime, alloc: Global, call: u64, keep: bool) -> Result<bo
 }
 
 // Says at which call the script does not end as it should. The first one opens the store.
-fn each_call_fails(rt: HostRuntime, alloc: Global) -> Result<(), Fail> {
+fn each_call_fails<R: Threads + Wait + Clock + Copy + Drop + Send>(
+    rt: R,
+    alloc: Global,
+) -> Result<(), Fail> {
     for call in 2..=CALLS + 1 {
         for keep in [false, true] {
             if !ends_well(rt, alloc, call, keep)? {

@@ -66,8 +66,14 @@ fn course() -> Course
 }
 
 // Runs a script over a shelf that opens, in threads of the scope.
-fn run_in<'s, X: 's, S: Shelf + Drop, P: Places + Drop>(
-    rt: HostRuntime,
+fn run_in<
+    's,
+    X: 's,
+    S: Shelf + Drop,
+    P: Places + Drop,
+    R: Threads + Wait + Clock + Copy + Drop + Send + 's,
+>(
+    rt: R,
     alloc: Global,
     scope: &'s Scope<'s, X>,
     script: &[u8],
@@ -116,8 +122,8 @@ fn places_of(alloc: Global, files: &[File]) -> Result<MemPlaces, Fail> {
 }
 
 /// Runs a script over a shelf that opens, and these files.
-pub fn run_over<S: Shelf + Drop>(
-    rt: HostRuntime,
+pub fn run_over<S: Shelf + Drop, R: Threads + Wait + Clock + Copy + Drop + Send>(
+    rt: R,
     alloc: Global,
     script: &[u8],
     files: &[File],
@@ -135,8 +141,8 @@ pub fn run_over<S: Shelf + Drop>(
 
 /// Runs a script over an empty shelf and these files. The first write of its first restore waits for the
 /// put of a floor, of this number, and that put for the write.
-pub fn run_gated(
-    rt: HostRuntime,
+pub fn run_gated<R: Threads + Wait + Clock + Copy + Drop + Send>(
+    rt: R,
     alloc: Global,
     script: &[u8],
     files: &[File],

@@ -1,7 +1,10 @@
 // A script in which two restores run beside a backup and a deletion, and what has to hold of it whatever fails.
 use crate::running::{File, Left, is_line, run_over};
 use std::alloc::Global;
+use std::sync::Wait;
 use std::test::Fail;
+use std::thread::Threads;
+use std::time::Clock;
 use vault_ports::{MemPlaces, MemShelf};
 use vault_traits::Shelf;
 use vault_types::{Answer, Fault};
@@ -34,8 +37,8 @@ const LINES: [&[u8]; 7] = [
 ];
 
 /// Runs the script over a shelf.
-pub fn run_script<S: Shelf + Drop>(
-    rt: HostRuntime,
+pub fn run_script<S: Shelf + Drop, R: Threads + Wait + Clock + Copy + Drop + Send>(
+    rt: R,
     alloc: Global,
     shelf: S,
 ) -> Result<Left<S, MemPlaces>, Fail> {
@@ -144,8 +147,8 @@ fn is_kept(
 }
 
 /// Whether a shelf that the script left opens, and has each version that it stored and did not delete.
-pub fn are_kept(
-    rt: HostRuntime,
+pub fn are_kept<R: Threads + Wait + Clock + Copy + Drop + Send>(
+    rt: R,
     alloc: Global,
     answers: &[Answer],
     shelf: MemShelf,

@@ -74,14 +74,14 @@ module _ {I : Type 0} (b : Began) (told : I → SourceTold) (now : View) (p : Pi
     filling = at t done idle moved;
   }
     where
-      as : (o : Option Container) (s : SealView) → held ≡ o → lane ≡ s → IsFilling b now p.filler o p.lens s (map part_of h.parts) → IsFilling b now p.filler held p.lens lane (map part_of h.parts)
-      as o s same still f = subst (λ (q : Option Container × SealView). IsFilling b now p.filler q.0 p.lens q.1 (map part_of h.parts)) (λ i. (sym same i, sym still i)) f
+      filling_as : (o : Option Container) (s : SealView) → held ≡ o → lane ≡ s → IsFilling b now p.filler o p.lens s (map part_of h.parts) → IsFilling b now p.filler held p.lens lane (map part_of h.parts)
+      filling_as o s same still f = subst (λ (q : Option Container × SealView). IsFilling b now p.filler q.0 p.lens q.1 (map part_of h.parts)) (λ i. (sym same i, sym still i)) f
 
       at : (t : Turn) → (t ≡ Done → (p.held ≡ None) × (held ≡ None) × (lane ≡ p.lane)) → (t ≡ Idle → (held ≡ p.held) × (lane ≡ p.lane))
           → (t ≡ Moved → (c : Container) × (p.held ≡ Some c) × (held ≡ None) × (lane ≡ record p.lane { given = p.lane.given ++ Part c ∷ [] })) → IsFilling b now p.filler held p.lens lane (map part_of h.parts)
-      at Done done idle moved = let is = done refl in as p.held p.lane (is.1 ∙ sym is.0) is.2 h.filling
-      at Idle done idle moved = let is = idle refl in as p.held p.lane is.0 is.1 h.filling
-      at Moved done idle moved = let is = moved refl in as None lane is.2 refl (handed_on b now p.filler p.held p.lens p.lane lane (map part_of h.parts) is.0 is.1 is.3 h.filling)
+      at Done done idle moved = let is = done refl in filling_as p.held p.lane (is.1 ∙ sym is.0) is.2 h.filling
+      at Idle done idle moved = let is = idle refl in filling_as p.held p.lane is.0 is.1 h.filling
+      at Moved done idle moved = let is = moved refl in filling_as None lane is.2 refl (handed_on b now p.filler p.held p.lens p.lane lane (map part_of h.parts) is.0 is.1 is.3 h.filling)
 
   -- an item came of the stages
   module _ (stages : JobView I) (item : Flow Decided) (is : stages ≡ record p.stages { taken = p.stages.taken ++ item ∷ [] }) where

@@ -39,6 +39,10 @@ module _ {I : Type 0} (b : Began) (told : I → SourceTold) (now new : JobView I
     stopped = ap (λ (j : JobView I). j.stopped) is ∙ h.stopped;
   }
 
+-- the same backup
+pub piping_as : {I : Type 0} (b : Began) (told : I → SourceTold) (u v : View) (p q : PipingView I) → v ≡ u → q ≡ p → IsPiping b told u p → IsPiping b told v q
+piping_as {I} b told u v p q same still h = subst (λ (x : View × PipingView I). IsPiping b told x.0 x.1) (λ i. (sym same i, sym still i)) h
+
 module _ {I : Type 0} (b : Began) (told : I → SourceTold) (now : View) (p : PipingView I) (h : IsPiping b told now p) where
   -- what came back of the lane was put
   pub put_on : (after : View) (lane : SealView) (lens : List ℕ) → HasHanded b after lens lane (run h.filling.gone None) → IsPiping b told after (record p { lane = lane; lens = lens })
@@ -82,6 +86,10 @@ module _ {I : Type 0} (b : Began) (told : I → SourceTold) (now : View) (p : Pi
       at Done done idle moved = let is = done refl in filling_as p.held p.lane (is.1 ∙ sym is.0) is.2 h.filling
       at Idle done idle moved = let is = idle refl in filling_as p.held p.lane is.0 is.1 h.filling
       at Moved done idle moved = let is = moved refl in filling_as None lane is.2 refl (handed_on b now p.filler p.held p.lens p.lane lane (map part_of h.parts) is.0 is.1 is.3 h.filling)
+
+  -- the stages are as they were
+  pub still_on : (stages : JobView I) → stages ≡ p.stages → IsPiping b told now (record p { stages = stages })
+  still_on stages same = piping_as b told now now p (record p { stages = stages }) refl (λ i. record p { stages = same i }) h
 
   -- an item came of the stages
   module _ (stages : JobView I) (item : Flow Decided) (is : stages ≡ record p.stages { taken = p.stages.taken ++ item ∷ [] }) where
@@ -134,7 +142,3 @@ module _ {I : Type 0} (b : Began) (told : I → SourceTold) (now : View) (p : Pi
         at last.End = h.filling
         at (last.Failed f) = (h.filling.handed.put, h.filling.handed.all.underway)
         at last.Stopped = tt
-
--- the same backup
-pub piping_as : {I : Type 0} (b : Began) (told : I → SourceTold) (u v : View) (p q : PipingView I) → v ≡ u → q ≡ p → IsPiping b told u p → IsPiping b told v q
-piping_as {I} b told u v p q same still h = subst (λ (x : View × PipingView I). IsPiping b told x.0 x.1) (λ i. (sym same i, sym still i)) h

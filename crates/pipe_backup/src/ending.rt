@@ -119,20 +119,37 @@ fn settle<I: Source + Drop, R: Wait + Clock, S: Shelf>(
         mut lens,
         ..
     } = piping;
-    let filled = match ended.last {
+    match ended.last {
         Err(halt) => {
             drain(rt, &mut stages, &halt);
-            Err(halt)
+            Left {
+                stages,
+                lane,
+                lens,
+                filled: Err(halt),
+            }
         }
-        Ok(Last::End) => finish(rt, alloc, keeper, &mut lane, held, filler, span, &mut lens),
-        Ok(Last::Failed(fault)) => Err(Halt::Failed(fault)),
-        Ok(Last::Stopped) => Err(Halt::Never),
-    };
-    Left {
-        stages,
-        lane,
-        lens,
-        filled,
+        Ok(Last::End) => {
+            let filled = finish(rt, alloc, keeper, &mut lane, held, filler, span, &mut lens);
+            Left {
+                stages,
+                lane,
+                lens,
+                filled,
+            }
+        }
+        Ok(Last::Failed(fault)) => Left {
+            stages,
+            lane,
+            lens,
+            filled: Err(Halt::Failed(fault)),
+        },
+        Ok(Last::Stopped) => Left {
+            stages,
+            lane,
+            lens,
+            filled: Err(Halt::Never),
+        },
     }
 }
 

@@ -1,5 +1,5 @@
 -- What a backup that has come to its last step comes to.
-use Rattle.std.proofs.Common.{◌≡◌, ◌⊎◌, inl, inr, ⊎_elim, ℕ, ◌<◌, List, ◌++◌, length, map, refl, subst, arith, length-append, Some, None}
+use Rattle.std.proofs.Common.{◌≡◌, ◌⊎◌, inl, inr, ⊎_elim, ℕ, ◌<◌, List, ◌++◌, length, map, refl, sym, subst, arith, length-append, Some, None}
 use Rattle.std.specs.Prelude.{Result, Ok, Err, IfOk, IfErr}
 use Rattle.vault_types.specs.declared.Fault.{Fault}
 use Rattle.vault_types.specs.Stages.{IsFront, decided_parts}
@@ -22,6 +22,10 @@ use Rattle.pipe_backup.specs.Piping.{PipingView, HasCome, IsLastStep, last_came}
 use Rattle.pipe_backup.specs.Ending.{ComesTo, IsFilledFrom}
 use Rattle.pipe_backup.proofs.Flows.{all_more}
 use Rattle.pipe_backup.proofs.Fills.{end_comes}
+
+-- the same backup
+pub come_as : {I : Type 0} (b : Began) (told : I → SourceTold) (now : View) (p q : PipingView I) (e : Ended) → q ≡ p → HasCome b told now p e → HasCome b told now q e
+come_as {I} b told now p q e same h = subst (λ (x : PipingView I). HasCome b told now x e) (sym same) h
 
 module _ {I : Type 0} (b : Began) (told : I → SourceTold) (now : View) (p : PipingView I) (e : Ended) (h : HasCome b told now p e) where
   taken_as : (l : Result Last Halt) → e.last ≡ l → p.stages.taken ≡ run h.parts (last_came l)

@@ -123,32 +123,34 @@ fn settle<I: Source + Drop, R: Wait + Clock, S: Shelf>(
         Err(halt) => {
             drain(rt, &mut stages, &halt);
             Left {
-                stages,
-                lane,
-                lens,
                 filled: Err(halt),
-            }
-        }
-        Ok(Last::End) => {
-            let filled = finish(rt, alloc, keeper, &mut lane, held, filler, span, &mut lens);
-            Left {
                 stages,
                 lane,
                 lens,
-                filled,
             }
         }
-        Ok(Last::Failed(fault)) => Left {
-            stages,
-            lane,
-            lens,
-            filled: Err(Halt::Failed(fault)),
-        },
-        Ok(Last::Stopped) => Left {
-            stages,
-            lane,
-            lens,
-            filled: Err(Halt::Never),
+        Ok(last) => match last {
+            Last::End => {
+                let filled = finish(rt, alloc, keeper, &mut lane, held, filler, span, &mut lens);
+                Left {
+                    filled,
+                    stages,
+                    lane,
+                    lens,
+                }
+            }
+            Last::Failed(fault) => Left {
+                filled: Err(Halt::Failed(fault)),
+                stages,
+                lane,
+                lens,
+            },
+            Last::Stopped => Left {
+                filled: Err(Halt::Never),
+                stages,
+                lane,
+                lens,
+            },
         },
     }
 }

@@ -15,8 +15,8 @@ returns-in-Moved-clause-err g c b now h =
     let v = piping_as b (λ s. g.I.Source.told s) now now _ _ refl c.piping.view_is h in
     c.take_next.ensures.err b now (held_on b (λ s. g.I.Source.told s) now _ v c.hand_held.result c.hand_held.new.lane c.hand_held.new.held c.hand_held.ensures.none c.hand_held.ensures.idle c.hand_held.ensures.moved)
 
-pub take_next-in-Done-requires : goal.take_next-in-Done-requires
-take_next-in-Done-requires g c = (c.hand_held.ensures.none c.in-Done.is).1
+pub take_next-requires-in-Done : goal.take_next-requires-in-Done
+take_next-requires-in-Done g c = (c.hand_held.ensures.none c.in-Done.is).1
 
 pub returns-in-Done-clause-ok : goal.returns-in-Done-clause-ok
 returns-in-Done-clause-ok g c b now h =

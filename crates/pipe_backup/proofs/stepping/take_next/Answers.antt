@@ -1,4 +1,5 @@
-use Rattle.std.proofs.Common.{◌+◌, refl, arith}
+use Rattle.std.proofs.Common.{◌+◌, ◌∙◌, refl, ap, arith}
+use Rattle.pipe_backup.specs.Piping.{PipingView}
 use Rattle.pipe_backup.proofs.Steps.{piping_as, still_on, part_on, many_on, memory_on, last_on}
 use Rattle.pipe_backup.proofs.stepping.take_next.Goals as goal
 
@@ -26,4 +27,4 @@ pub returns-in-Ok-take_part-clause-ok : goal.returns-in-Ok-take_part-clause-ok
 returns-in-Ok-take_part-clause-ok g c b now h =
     let v = piping_as b (λ s. g.I.Source.told s) now now _ _ refl c.piping.view_is h in
     part_on b (λ s. g.I.Source.told s) now _ v c.take.new.self c.in-Some.item c.in-Some.ensures.taken c.in-Ok.part c.take_part.new.filler c.in-Ok-take_part.given (c.piping.inside.count + 1) c.in-Ok.ensures
-    (rw (c.piping.view_is) c.requires) (omega (arith, c.if-piping.false)) refl (λ gone parts filled few. c.in-Ok-take_part.ensures b gone parts filled few)
+    (ap (λ (q : PipingView g.row.I.Denot). q.held) c.piping.view_is ∙ c.requires) (omega (arith, c.if-piping.false)) refl (λ gone parts filled few. c.in-Ok-take_part.ensures b gone parts filled few)

@@ -27,7 +27,7 @@ use Rattle.keeper_core.specs.Calls.{IsShelfFault}
 use Rattle.store_model.specs.Calls.{BacksUpLine, AreTooManyBytes}
 use Rattle.store_model.specs.Causes.{CausesRise, counts_of_source, fits}
 use Rattle.store_model.specs.Complete.{IsWell, IsWellAnswered}
-use Rattle.store_model.specs.Steps.{BearsStep, IsNextOther, StandsWith, StepsOn}
+use Rattle.store_model.specs.Steps.{answer_of, BearsStep, IsNextOther, StandsWith, StepsOn}
 use Rattle.store_model.specs.Table.{MeansLine}
 use Rattle.store_model.specs.Recipes.{KeepsForms}
 use Rattle.script_laws.proofs.Following.{near_with}
@@ -230,14 +230,10 @@ same_fault f g e = cc
 
 -- what a backup ensures of its line whatever the steps are told of
 module _ (Before After : State → Option Change → Type 0) (u v : View) (s : ℕ) (config : JobConfig) (limits : Limits) (from to : SourceTold) (core : HasCore u) where
-  Stepping : (read : List ℕ) → Answer → Type 0
+  abbrev Stepping : List ℕ → Answer → Type 0
   Stepping read a = (S : State) (other : Option Change) → Before S other
       → (next : Option Change) × After (after (λ _. unwrap_or from.left read) S (Backup s [] config) a) next
       × StepsOn limits (λ _. unwrap_or from.left read) S other (Backup s [] config) a next (IsKnownStray u) (IsKnownStray v) u.told v.told
-
-  answer_of : Result Answer Fault → Answer
-  answer_of (Ok a) = a
-  answer_of (Err f) = Refused f
 
   backs_up_with : (result : Result Answer Fault) → (h : BacksUp s config limits u v from to result) → Stepping h.read (answer_of result) → BacksUpLine Before After (IsKnownStray u) (IsKnownStray v) limits s config u.told v.told from to result
   backs_up_with (Ok a) h steps = record {

@@ -3,3 +3,4 @@ pub mod Handing
 pub mod Fills
 pub mod Backs
 pub mod Starts
+pub mod Moved

@@ -1,5 +1,5 @@
 use Rattle.backup_jobs.proofs.Parts.{gone_of_job}
-use Rattle.pipe_backup.proofs.filling.finish.Goals as goal
+use Rattle.pipe_backup.proofs.ending.finish.Goals as goal
 
 pub hand_rest-requires : goal.hand_rest-requires
 hand_rest-requires g c =

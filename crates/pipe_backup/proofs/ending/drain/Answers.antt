@@ -1,6 +1,6 @@
 use Rattle.std.proofs.Common.{◌∷◌, ◌++◌, []}
 use Rattle.pipe_backup.proofs.Flows.{part_behind, begun_still}
-use Rattle.pipe_backup.proofs.filling.drain.Goals as goal
+use Rattle.pipe_backup.proofs.ending.drain.Goals as goal
 
 pub loop-preserved-in_default : goal.loop-preserved-in_default
 loop-preserved-in_default g c =

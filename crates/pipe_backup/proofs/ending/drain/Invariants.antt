@@ -1,8 +1,8 @@
 use Rattle.std.proofs.Common.{◌≡◌, ◌++◌, List, None}
 use Rattle.rewrite_stage.specs.declared.Decided.{Decided}
 use Rattle.stage_flows.specs.Runs.{run}
-use Rattle.pipe_backup.specs.Piping.{as_begun}
-use Rattle.pipe_backup.proofs.filling.drain.Given as goal
+use Rattle.pipe_backup.specs.Ending.{as_begun}
+use Rattle.pipe_backup.proofs.ending.drain.Given as goal
 
 abbrev pub invariant-loop : goal.invariant-loop
 invariant-loop g l = record {

@@ -27,7 +27,7 @@ use Rattle.keeper_core.specs.Calls.{IsShelfFault}
 use Rattle.store_model.specs.Calls.{BacksUpLine, AreTooManyBytes}
 use Rattle.store_model.specs.Causes.{CausesRise, counts_of_source, fits}
 use Rattle.store_model.specs.Complete.{IsWell, IsWellAnswered}
-use Rattle.store_model.specs.Steps.{answer_of, BearsStep, IsNextOther, StandsWith, StepsOn}
+use Rattle.store_model.specs.Steps.{BearsStep, IsNextOther, StandsWith, StepsOn, answer_of}
 use Rattle.store_model.specs.Table.{MeansLine}
 use Rattle.store_model.specs.Recipes.{KeepsForms}
 use Rattle.script_laws.proofs.Following.{near_with}
@@ -230,7 +230,7 @@ same_fault f g e = cc
 
 -- what a backup ensures of its line whatever the steps are told of
 module _ (Before After : State → Option Change → Type 0) (u v : View) (s : ℕ) (config : JobConfig) (limits : Limits) (from to : SourceTold) (core : HasCore u) where
-  abbrev Stepping : List ℕ → Answer → Type 0
+  abbrev Stepping : (read : List ℕ) → Answer → Type 0
   Stepping read a = (S : State) (other : Option Change) → Before S other
       → (next : Option Change) × After (after (λ _. unwrap_or from.left read) S (Backup s [] config) a) next
       × StepsOn limits (λ _. unwrap_or from.left read) S other (Backup s [] config) a next (IsKnownStray u) (IsKnownStray v) u.told v.told

@@ -8,17 +8,18 @@ use Rattle.keeper_catalog.specs.View.{View, HasCore}
 use Rattle.keeper_core.specs.Keeping.{IsKnownStray}
 use Rattle.backup_jobs.specs.Going.{Began, IsUnderway}
 use Rattle.backup_lines.proofs.Following.{underway_follows}
+use Rattle.pipe_backup.specs.Loading.{IsLoaded, counted_as}
+use Rattle.pipe_backup.proofs.Moved.{keeps_counted}
 use Rattle.pin_laws.specs.Following.{Follows}
 use Rattle.pin_laws.proofs.Calls.{further}
-use Rattle.beside_runner.proofs.Served.{held_at, held_set, under_on}
-use Rattle.restore_turns.specs.Entry.{IsEntry, MeetsFirst, IsStateBeside}
+use Rattle.beside_runner.proofs.Served.{held_set, under_on}
+use Rattle.restore_turns.specs.Entry.{MeetsFirst, IsStateBeside}
 use Rattle.restore_turns.proofs.Turns.{load_follows}
-use Rattle.restore_ends.proofs.Alone.{alone, alone_keeps, alone_stays}
 use Rattle.serial_restore.specs.Going.{Stays}
 use Rattle.running_restore.specs.Feeding.{HasFed}
 use Rattle.running_restore.specs.Views.{RunningView, IsRunning}
 use Rattle.beside_steps.specs.Holding.{BesideView, IsOne, Holds, past_of}
-use Rattle.beside_steps.proofs.Held.{one_of, one_follows}
+use Rattle.beside_steps.proofs.Held.{one_at, one_follows}
 use Rattle.beside_steps.proofs.Going.{gone_on, holds_fed}
 use Rattle.beside_jobs.specs.Under.{told_of}
 use Rattle.beside_jobs.specs.Beside.{Reached, RunsThere}
@@ -31,10 +32,6 @@ meets_back : (a b : ℕ) (was met : Option ℕ) (now : ℕ) → a ≤ b → Meet
 meets_back a b was met now later (inl same) = let on = same.1 in inl (same.0, omega (arith, later, on))
 meets_back a b was met now later (inr first) = inr (first.0, (first.1.0, first.1.1, (rose_back a b first.1.0 later first.1.2.0, first.1.2.1)))
 
--- the one at a place
-pub one_at : (v : View) (files : Option Files) (es : List BesideView) (at : ℕ) (e : BesideView) → at < length es → e ≡ get_or es at e → Holds v files es → IsOne v files e
-one_at v files es at e below is h = let parts = held_at (Holds v files) (Holds v files) es at e below is h in one_of v files parts.0 e parts.1 parts.2
-
 module _ (b : Began) (now : View) (containers : List Container) (u : IsUnderway b now containers) where
   -- the keeper at this moment of the job still has its pin
   pub running_now : (files : Option Files) (e : BesideView) → IsOne b.keeper files e → IsRunning now e.restore
@@ -42,14 +39,14 @@ module _ (b : Began) (now : View) (containers : List Container) (u : IsUnderway 
 
   module _ (next : View) (r q : RunningView) (fed : HasFed now next r q) where
     abbrev behind : View
-    behind = alone b.keeper next.told.gets next.told.faults
+    behind = counted_as b.keeper next
 
     later_on : b.keeper.told.faults ≤ next.told.faults
     later_on = let first = u.later in let then = fed.stays.later in omega (arith, first, then)
 
     stays_behind : Stays b.keeper behind
     unfolding later_on
-    stays_behind = alone_stays b.keeper next.told.gets next.told.faults later_on
+    stays_behind = record { memo = refl; index = refl; pins = refl; job = refl; pending = refl; blobs = refl; history = refl; later = later_on; keeps = keeps_counted b.keeper next }
 
     pub fed_before : HasFed b.keeper behind r q
     unfolding stays_behind
@@ -80,9 +77,9 @@ module _ (b : Began) (now : View) (containers : List Container) (u : IsUnderway 
   -- one of the restores that run has gone on
   module _ (next : View) (r : Reached) (es : List BesideView) (at : ℕ) (e d : BesideView) (below : at < length es) (is : e ≡ get_or es at e) (fed : HasFed now next e.restore d.restore)
       (named : d.name ≡ e.name) (placed : d.place ≡ e.place) (same : d.ended ≡ e.ended) (running : IsRunning next d.restore) where
-    pub runs_on : RunsThere r es b.keeper → RunsThere r (set es at d) (alone b.keeper next.told.gets next.told.faults)
+    pub runs_on : RunsThere r es b.keeper → RunsThere r (set es at d) (counted_as b.keeper next)
     runs_on h =
-        let w = alone b.keeper next.told.gets next.told.faults in
+        let w = counted_as b.keeper next in
         let before = fed_before next e.restore d.restore fed in
         let one = one_at b.keeper r.places.files es at e below is h.holds in
         record {
@@ -92,5 +89,9 @@ module _ (b : Began) (now : View) (containers : List Container) (u : IsUnderway 
         }
 
 -- a core is kept whatever the counts
-pub core_alone : (v : View) (gets faults : ℕ) → HasCore v → HasCore (alone v gets faults)
-core_alone v gets faults core = (core.0, alone_keeps v gets faults core.0 core.1)
+pub core_counted : (v now : View) → HasCore v → HasCore (counted_as v now)
+core_counted v now core = (core.0, keeps_counted v now core.0 core.1)
+
+-- what was fed was loaded
+pub fed_loads : (v w : View) (r q : RunningView) → HasFed v w r q → IsLoaded v w
+fed_loads v w r q fed = let s = fed.stays in record { memo = s.memo; index = s.index; pins = s.pins; job = s.job; pending = s.pending; blobs = s.blobs; history = s.history; later = s.later }

@@ -3,7 +3,7 @@ ghost use Rattle.std.specs.Prelude.{◌≡◌, ◌<◌, List, Option, vec_len, v
 ghost use Rattle.vault_types.specs.Tables.{Container};
 ghost use Rattle.vault_traits.specs.Told.{Files};
 ghost use Rattle.backup_jobs.specs.Going.{Began, IsUnderway};
-ghost use Rattle.pipe_backup.specs.Moving.{IsLoaded, moved};
+ghost use Rattle.pipe_backup.specs.Loading.{IsLoaded, moved};
 ghost use Rattle.beside_steps.specs.Holding.{Holds};
 ghost use Rattle.beside_jobs.specs.Beside.{Reached, RunsThere};
 

@@ -4,7 +4,7 @@ use Rattle.keeper_core.specs.Keeping.{IsKnownStray}
 use Rattle.restore_turns.specs.Entry.{IsStateBeside}
 use Rattle.beside_steps.specs.Holding.{past_of}
 use Rattle.beside_steps.specs.Kept.{kept_beside}
-use Rattle.keeper_run.specs.Under.{told_of}
+use Rattle.beside_jobs.specs.Under.{told_of}
 use Rattle.keeper_run.proofs.Turns.{answered, begun}
 use Rattle.keeper_run.proofs.run.one_line.Goals as goal
 

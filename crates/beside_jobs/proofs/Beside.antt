@@ -37,9 +37,9 @@ module _ {I : Type 0} (r : Reached) (first : Began) (told : I → SourceTold) wh
         restores = on h.began u.0 r u.1 h.restores;
       }
 
-  -- so is what a step leaves of it
-  pub beside_so : (es : List BesideView) (So Then : Began → Type 0) → ((b : Began) → So b → Then b) → IsBeside r first es So → IsBeside r first es Then
-  beside_so es So Then step h = record { began = h.began; same = h.same; core = h.core; so = step h.began h.so; restores = h.restores }
+-- so is what a step leaves of it
+pub beside_so : (r : Reached) (first : Began) (es : List BesideView) (So Then : Began → Type 0) → ((b : Began) → So b → Then b) → IsBeside r first es So → IsBeside r first es Then
+beside_so r first es So Then step h = record { began = h.began; same = h.same; core = h.core; so = step h.began h.so; restores = h.restores }
 
 -- it starts
 pub starts_beside : {I : Type 0} (r : Reached) (told : I → SourceTold) (s : ℕ) (config : JobConfig) (limits : Limits) (v now : View) (from : SourceTold) (p : PipingView I) (es : List BesideView) → HasCore v → RunsThere r es v

@@ -12,7 +12,6 @@ abbrev pub invariant-loop-left : goal.invariant-loop-left
 invariant-loop-left g l = record {
   within : l.left ≤ vec_len l.running;
   room : vec_capacity l.running ≡ vec_capacity l.initial.running;
-  piping : l.piping ≡ l.initial.piping;
   beside : (r : Reached) (first : Began)
       → IsBeside r first l.initial.running.items (λ b. IsPiping b (λ s. g.I.Source.told s) l.initial.keeper l.initial.piping)
       → IsBeside r first l.running.items (λ b. IsPiping b (λ s. g.I.Source.told s) l.keeper l.initial.piping);

@@ -5,13 +5,13 @@ pub start_piped-requires-clause-no_job : goal.start_piped-requires-clause-no_job
 start_piped-requires-clause-no_job g c κs within = let r = c.requires.restores in r.1.holds.job
 
 pub turn_to_end-ended-requires : goal.turn_to_end-ended-requires
-turn_to_end-ended-requires g c κs within =
+turn_to_end-ended-requires g c =
     let r = c.requires.restores in
     let h = c.in-Ok.ensures.ok in
     (r.0, h.began, starts_beside r.0 (λ s. g.I.Source.told s) c.args.set c.args.config.now c.args.limits.now c.args.keeper.now c.start_piped.new.keeper (g.I.Source.told c.args.source) c.in-Ok.piping c.args.running.now.items c.keeps_some_core.ensures r.1 h)
 
 pub end_piped-requires : goal.end_piped-requires
-end_piped-requires g c κs within =
+end_piped-requires g c =
     let r = c.requires.restores in
     let h = c.in-Ok.ensures.ok in
     let k = c.turn_to_end-ended.ensures.come r.0 h.began (starts_beside r.0 (λ s. g.I.Source.told s) c.args.set c.args.config.now c.args.limits.now c.args.keeper.now c.start_piped.new.keeper (g.I.Source.told c.args.source) c.in-Ok.piping c.args.running.now.items c.keeps_some_core.ensures r.1 h) in

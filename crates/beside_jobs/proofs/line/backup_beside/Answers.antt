@@ -67,10 +67,11 @@ returns-in-Err-clause-answers g c r limited told h =
     let q = g.P.Places.told c.close_source.new.self in
     let o = c.in-Ok.ensures in
     let k = c.close_source.ensures in
+    let numbered : c.with_read_number.result ≡ read_numbered q.read_faults c.in-Err.fault = c.with_read_number.ensures ∙ ap (λ (n : ℕ). read_numbered n c.in-Err.fault) c.read_faults.ensures in
     let done = c.stream_beside-source.ensures.backed_up r h in
     answers_at r c.stream_beside-source.new.running.items done.behind c.args.limits.now p (Backup c.args.set c.args.name.now c.args.config.now) _ _ limited told done.restores
     (backup_line_err told_of IsStateBeside IsKnownStray c.args.limits.now done.behind c.stream_beside-source.new.keeper p m q c.args.set c.args.name.now c.as_str.result.now c.args.config.now c.in-Err.fault c.with_read_number.result
-    (g.P.Reader.Source.told c.in-Ok.source) (g.P.Reader.Source.told c.stream_beside-source.result.0) (c.with_read_number.ensures ∙ ap (λ (n : ℕ). read_numbered n c.in-Err.fault) c.read_faults.ensures) c.as_str.ensures
+    (g.P.Reader.Source.told c.in-Ok.source) (g.P.Reader.Source.told c.stream_beside-source.result.0) numbered c.as_str.ensures
     (record { reader = o.reader; opened_files = o.files; later = o.cause.later; reads = o.read_faults; writes = o.write_faults; closed_files = k.files; same = k.faults; added_reads = k.read_faults; same_writes = k.write_faults })
     (backed_up done.behind c.stream_beside-source.new.keeper c.args.set c.args.config.now c.args.limits.now (g.P.Reader.Source.told c.in-Ok.source) (g.P.Reader.Source.told c.stream_beside-source.result.0) c.stream_beside-source.result.1 _ done.core c.requires.config.cutting done.backs_up c.in-Err.is))
 

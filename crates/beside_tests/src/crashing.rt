@@ -9,7 +9,7 @@ use std::time::Clock;
 use vault_ports::{CrashShelf, MemShelf};
 
 // One call more than the script makes where none fails.
-const BEYOND: u64 = 47;
+const BEYOND: u64 = 46;
 
 // Whether each restore has its version, or a front of it; and whether the store opens with what was
 // stored behind a crash, at which these of the writes that were not settled are done.

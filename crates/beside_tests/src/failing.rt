@@ -10,7 +10,7 @@ use vault_ports::{FaultShelf, MemShelf};
 use vault_traits::Shelf;
 
 // The number of calls where none fails.
-const CALLS: u64 = 46;
+const CALLS: u64 = 45;
 
 // The calls up to the end of the second backup, behind which one failure changes one answer at most.
 const STORED: u64 = 20;

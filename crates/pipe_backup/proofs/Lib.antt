@@ -4,3 +4,5 @@ pub mod Fills
 pub mod Backs
 pub mod Starts
 pub mod Moved
+pub mod Steps
+pub mod Settles

@@ -1,5 +1,8 @@
 -- A job begins.
-use Rattle.std.proofs.Common.{◌≡◌, ℕ, List, [], false, None, refl, ap, ◌∙◌, arith}
+use Rattle.std.proofs.Common.{◌≡◌, ℕ, List, [], false, None, refl, ap, ◌∙◌, subst, arith}
+use Rattle.std.specs.Prelude.{Result}
+use Rattle.vault_types.specs.declared.Answer.{Answer}
+use Rattle.vault_types.specs.declared.Fault.{Fault}
 use Rattle.vault_types.specs.declared.Fault.TheVariants as fault
 use Rattle.vault_types.specs.declared.JobConfig.{JobConfig}
 use Rattle.vault_types.specs.declared.Limits.{Limits}
@@ -9,6 +12,7 @@ use Rattle.container_fill.specs.Filling.{Filling, HasFilled}
 use Rattle.keeper_catalog.specs.View.{View}
 use Rattle.pipe_run.specs.Jobs.{JobView}
 use Rattle.seal_lane.specs.Lanes.{SealView}
+use Rattle.backup_jobs.specs.Backup.{BacksUp}
 use Rattle.backup_jobs.specs.declared.opening.Opened.{Opened}
 use Rattle.backup_jobs.specs.Going.{IsOpened, IsStopped, began_with}
 use Rattle.backup_jobs.proofs.Causes.{gives_none}
@@ -71,3 +75,9 @@ starts {I} s config limits before now told o source sparse j lane f lens h can s
     };
   };
 }
+
+-- what a backup that has started ensures at its end
+pub started_backs_up : {I : Type 0} (told : I → SourceTold) (s : ℕ) (config : JobConfig) (limits : Limits) (before now : View) (from : SourceTold) (p : PipingView I) → (h : HasStartedPiping told s config limits before now from p)
+    → (after : View) (to : SourceTold) (r : Result Answer Fault) → BacksUp h.began.set h.began.config h.began.limits h.began.keeper after h.began.source to r → BacksUp s config limits before after from to r
+started_backs_up {I} told s config limits before now from p h after to r is =
+    subst (λ (x : ℕ × JobConfig × Limits × View × SourceTold). BacksUp x.0 x.1 x.2 x.3 after x.4 to r) (λ i. (h.set_is i, h.config_is i, h.limits_are i, h.keeper_is i, h.source_is i)) is

@@ -119,20 +119,39 @@ fn settle<I: Source + Drop, R: Wait + Clock, S: Shelf>(
         mut lens,
         ..
     } = piping;
-    let filled = match ended.last {
+    match ended.last {
         Err(halt) => {
             drain(rt, &mut stages, &halt);
-            Err(halt)
+            Left {
+                filled: Err(halt),
+                stages,
+                lane,
+                lens,
+            }
         }
-        Ok(Last::End) => finish(rt, alloc, keeper, &mut lane, held, filler, span, &mut lens),
-        Ok(Last::Failed(fault)) => Err(Halt::Failed(fault)),
-        Ok(Last::Stopped) => Err(Halt::Never),
-    };
-    Left {
-        stages,
-        lane,
-        lens,
-        filled,
+        Ok(last) => match last {
+            Last::End => {
+                let filled = finish(rt, alloc, keeper, &mut lane, held, filler, span, &mut lens);
+                Left {
+                    filled,
+                    stages,
+                    lane,
+                    lens,
+                }
+            }
+            Last::Failed(fault) => Left {
+                filled: Err(Halt::Failed(fault)),
+                stages,
+                lane,
+                lens,
+            },
+            Last::Stopped => Left {
+                filled: Err(Halt::Never),
+                stages,
+                lane,
+                lens,
+            },
+        },
     }
 }
 

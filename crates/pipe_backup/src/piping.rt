@@ -135,6 +135,7 @@ pub fn start_piped<
         course.stacks,
     );
     let lane = SealLane::start(rt, lane_room, scope, stack_of(course.seal));
+    let lens = Vec::new(alloc);
     let filler = Filler::new(alloc, job.first, config.container);
     let span = Span {
         first: job.first,
@@ -147,7 +148,7 @@ pub fn start_piped<
         filler,
         held: None,
         span,
-        lens: Vec::new(alloc),
+        lens,
         count: 0,
     })
 }

@@ -1,5 +1,5 @@
 // The steps of a backup that runs.
-ghost use Rattle.std.specs.Prelude.{◌≡◌, false, Ok, OnOk, IfErr};
+ghost use Rattle.std.specs.Prelude.{◌≡◌, false, None, Ok, OnOk, IfErr};
 ghost use Rattle.vault_types.specs.declared.Turn.TheVariants.{Idle as Rests};
 ghost use Rattle.keeper_catalog.specs.View.{View as Keeping};
 ghost use Rattle.backup_jobs.specs.Going.{Began};
@@ -15,24 +15,22 @@ use std::sync::Wait;
 use vault_traits::{Shelf, Source};
 use vault_types::{Fault, Turn};
 
-// Hands the container that is held to the lane, and then takes the next part, if there is one. Whether something moved.
-fn fill_some<I: Source + Drop, R: Wait>(
+// Takes the next part that came of the stages, if there is one. Whether something moved, the last container among it.
+fn take_next<I: Source + Drop, R: Wait>(
     rt: &R,
     alloc: Global,
     piping: &mut Piping<I>,
+    has_handed: bool,
 ) -> Result<bool, Ended>
+    requires { piping.old.held ≡ None }
     ensures ok { (b : Began) (now : Keeping) → IsPiping b (λ (i : I). I.told i) now piping.old
         → OnOk result (IsPiping b (λ (i : I). I.told i) now piping.new) }
     ensures err { (b : Began) (now : Keeping) → IsPiping b (λ (i : I). I.told i) now piping.old
         → IfErr result (HasCome b (λ (i : I). I.told i) now piping.new) }
-    ensures idle { result ≡ Ok false → piping.new ≡ piping.old }
+    ensures idle { result ≡ Ok false → (piping.new ≡ piping.old) × (has_handed ≡ false) }
 {
-    let handed = hand_held(rt, &mut piping.lane, &mut piping.held);
-    if handed == Turn::Idle {
-        return Ok(false);
-    }
     match piping.stages.take(rt) {
-        None => Ok(handed == Turn::Moved),
+        None => Ok(has_handed),
         Some(item) => match parted(item) {
             Err(last) => Err(Ended { last: Ok(last) }),
             Ok(part) => {
@@ -53,6 +51,25 @@ fn fill_some<I: Source + Drop, R: Wait>(
                 }
             }
         },
+    }
+}
+
+// Hands the container that is held to the lane, and then takes the next part. Whether something moved.
+fn fill_some<I: Source + Drop, R: Wait>(
+    rt: &R,
+    alloc: Global,
+    piping: &mut Piping<I>,
+) -> Result<bool, Ended>
+    ensures ok { (b : Began) (now : Keeping) → IsPiping b (λ (i : I). I.told i) now piping.old
+        → OnOk result (IsPiping b (λ (i : I). I.told i) now piping.new) }
+    ensures err { (b : Began) (now : Keeping) → IsPiping b (λ (i : I). I.told i) now piping.old
+        → IfErr result (HasCome b (λ (i : I). I.told i) now piping.new) }
+    ensures idle { result ≡ Ok false → piping.new ≡ piping.old }
+{
+    match hand_held(rt, &mut piping.lane, &mut piping.held) {
+        Turn::Idle => Ok(false),
+        Turn::Moved => take_next(rt, alloc, piping, true),
+        Turn::Done => take_next(rt, alloc, piping, false),
     }
 }
 
@@ -86,10 +103,14 @@ pub fn step_piped<I: Source + Drop, R: Wait, S: Shelf>(
         Ok(has_put) => has_put,
     };
     let kept = piping.stages.turn_rest(rt);
-    let has_filled = fill_some(rt, alloc, piping)?;
-    if has_put || has_filled || kept == Turn::Moved {
-        Ok(Turn::Moved)
-    } else {
-        Ok(Turn::Idle)
+    match fill_some(rt, alloc, piping) {
+        Err(ended) => Err(ended),
+        Ok(has_filled) => {
+            if has_put || has_filled || kept == Turn::Moved {
+                Ok(Turn::Moved)
+            } else {
+                Ok(Turn::Idle)
+            }
+        }
     }
 }

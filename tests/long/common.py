@@ -90,9 +90,10 @@ def copy_of(source, target):
 
 def versions_in(store):
     """By our own reader: the bytes of each version that is kept; `blobs.Damage`."""
-    if not os.path.isdir(store):
+    try:
+        state = blobs.opened(blobs.files_of(store))
+    except FileNotFoundError:
         return {}
-    state = blobs.opened(blobs.files_of(store))
     return {name: state.whole(*name) for name in state.versions()}
 
 

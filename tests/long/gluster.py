@@ -1,6 +1,8 @@
 """A store on a distributed file system: GlusterFS with three copies, on three bricks of this host, in name spaces of its
 own. A brick is killed in the middle of each backup or deletion, and comes back behind it; every version restores on two
-clients, and in the end from each brick alone. Then two of three bricks go, and the run is refused by name."""
+clients, and in the end from each brick alone. Then two of three bricks go, and the run is refused by name.
+
+ROUNDS=N is for N runs in which a brick goes, and not nine."""
 
 import ctypes
 import os
@@ -15,7 +17,7 @@ import blobs
 import common
 
 HOST = "10.99.0.1"
-ROUNDS = 9
+ROUNDS = int(os.environ.get("ROUNDS", "9"))
 INSIDE = "HARD_INSIDE"
 
 
@@ -43,7 +45,8 @@ def inside_of_its_own(case):
     if call(*spaces, "true").returncode:
         raise common.Skipped("there are no name spaces here")
     for program in case.programs:
-        environment = {**os.environ, INSIDE: "yes", "SEED": str(case.seed), "PROGRAM": program}
+        environment = {**os.environ, INSIDE: "yes", "SEED": str(case.seed), "PROGRAM": program,
+                       "TMPDIR": case.room}
         words = [*spaces, "bash", "-c", '"$@"; exit $?', "bash", sys.executable, hard, case.name]
         done = subprocess.run(words, env=environment, stdout=subprocess.PIPE, text=True, check=False, preexec_fn=dies_with_us)
         for line in done.stdout.splitlines():
@@ -79,12 +82,23 @@ class Volume:
         with open(os.path.join(folder, file), encoding="ascii") as pid:
             os.kill(int(pid.read()), signal.SIGKILL)
 
+    def serves(self, client):
+        """Whether a client has found the bricks again, and takes writes."""
+        try:
+            path = os.path.join(client, "asked")
+            with open(path, "wb") as file:
+                file.write(b"asked")
+            os.unlink(path)
+        except OSError:
+            return False
+        return True
+
     def heal(self):
         """Starts the bricks that are gone, and waits until all three have the same. Whether that came."""
         self.told("volume", "start", "v", "force")
         for _ in range(240):
             left = re.findall(r"Number of entries: (\S+)", call("gluster", "volume", "heal", "v", "info").stdout)
-            if left == ["0", "0", "0"]:
+            if left == ["0", "0", "0"] and all(map(self.serves, self.clients)):
                 return True
             call("gluster", "volume", "heal", "v")
             time.sleep(0.5)
@@ -126,8 +140,8 @@ class Life:
             store = os.path.join(client, "store")
             try:
                 found = common.versions_in(store)
-            except blobs.Damage as damage:
-                self.case.holds(f"{what}, client {i}", False, damage.line())
+            except (blobs.Damage, OSError) as error:
+                self.case.holds(f"{what}, client {i}", False, error)
                 continue
             self.case.holds(f"{what}, client {i}: versions", found in states, sorted(found))
             told = common.versions_by(self.program, store, states[-1], self.folder)

@@ -2,7 +2,6 @@
 //! the versions, the containers, the pins, the strays and the open job, and what a crash at any moment of it leaves.
 #![tactic(auto)]
 
-mod containers;
 mod deletion;
 mod job;
 mod keeper;

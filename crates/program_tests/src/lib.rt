@@ -26,6 +26,4 @@ mod running;
 #[cfg(test)]
 mod scripts;
 #[cfg(test)]
-mod scrubs;
-#[cfg(test)]
 mod unsettled;

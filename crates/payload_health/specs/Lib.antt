@@ -1,2 +1,0 @@
-pub mod Health
-pub mod Findings

@@ -1,4 +1,0 @@
-pub mod Ascending
-pub mod Staying
-pub mod Readings
-pub mod Steps

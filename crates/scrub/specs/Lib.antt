@@ -1,3 +1,0 @@
-pub mod Scrubbing
-pub mod Walking
-pub mod Standing

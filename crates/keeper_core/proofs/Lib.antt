@@ -12,3 +12,4 @@ pub mod Replaced
 pub mod Refusing
 pub mod Following
 pub mod BetweenLines
+pub mod Copyings

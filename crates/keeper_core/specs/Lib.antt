@@ -7,3 +7,4 @@ pub mod Pins
 pub mod Releases
 pub mod Replacing
 pub mod Keeping
+pub mod Copying

@@ -12,4 +12,3 @@ pub use closing::{Rest, StreamEnd, close_job};
 pub use filling::{finish_parts, take_part};
 pub use opening::{Job, Opened, open_job};
 pub use putting::{put_all, put_one};
-pub use sparse::sparse_ids;

@@ -12,4 +12,3 @@ pub mod Replaced
 pub mod Refusing
 pub mod Following
 pub mod BetweenLines
-pub mod Copyings

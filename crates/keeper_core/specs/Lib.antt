@@ -7,4 +7,3 @@ pub mod Pins
 pub mod Releases
 pub mod Replacing
 pub mod Keeping
-pub mod Copying

@@ -2,7 +2,6 @@
 //! the versions, the containers, the pins, the strays and the open job, and what a crash at any moment of it leaves.
 #![tactic(auto)]
 
-mod copying;
 mod deletion;
 mod job;
 mod keeper;
@@ -11,6 +10,5 @@ mod replacing;
 mod starting;
 mod telling;
 
-pub use copying::PinnedRecipe;
 pub use keeper::{Begun, Keeper};
 pub use pinning::Pinned;

@@ -4,22 +4,18 @@ use Rattle.std.specs.Prelude.{IsSome}
 use Rattle.std.proofs.Math.Nat.{le_refl}
 use Rattle.vault_types.specs.declared.Answer.{Answer}
 use Rattle.vault_types.specs.declared.Fault.{Fault}
-use Rattle.vault_types.specs.declared.JobConfig.{JobConfig}
 use Rattle.vault_types.specs.declared.Limits.{Limits}
-use Rattle.vault_types.specs.JobRanges.{IsCuttable}
 use Rattle.vault_types.specs.Events.{Core, Change, Pin}
 use Rattle.vault_types.specs.State.{State}
 use Rattle.vault_traits.specs.Counts.{Rose, RiseFrom}
 use Rattle.vault_traits.specs.Files.{ChangesOnly, MayBeEmptied, AreKept}
-use Rattle.vault_traits.specs.Told.{Files, ShelfTold, SourceTold}
-use Rattle.store_model.specs.Calls.{BacksUpLine, DeletesLine}
-use Rattle.keeper_catalog.specs.View.{View, Keeps, HasCore}
+use Rattle.vault_traits.specs.Told.{Files, ShelfTold}
+use Rattle.store_model.specs.Calls.{DeletesLine}
+use Rattle.keeper_catalog.specs.View.{View, Keeps}
 use Rattle.keeper_core.specs.Keeping.{IsStateWith, IsKnownStray}
-use Rattle.backup_jobs.specs.Backup.{BacksUp}
 use Rattle.pin_laws.proofs.Calls.{still}
 use Rattle.restore_turns.specs.Entry.{IsStateBeside}
 use Rattle.beside_steps.specs.Holding.{BesideView, Holds}
-use Rattle.backup_lines.proofs.Lines.{backs_up_beside}
 use Rattle.beside_steps.proofs.Held.{holds_still, told_kept}
 
 abbrev pub told_of : View → ShelfTold
@@ -35,13 +31,6 @@ rise_later before now (n ∷ ns) rise = let rest = rise_later n now ns rise.1 in
   where
     rose_low : (a b : ℕ) → Rose a b → a ≤ b
     rose_low a b rose = grind arith
-
--- a backup
-pub backed_up : (v w : View) (s : ℕ) (config : JobConfig) (limits : Limits) (from to : SourceTold) (result is : Result Answer Fault) → HasCore v → IsCuttable config.cutting → BacksUp s config limits v w from to result → result ≡ is
-    → BacksUpLine (IsStateBeside v) (IsStateBeside w) (IsKnownStray v) (IsKnownStray w) limits s config v.told w.told from to is
-backed_up v w s config limits from to result is core can h same =
-    subst (λ (r : Result Answer Fault). BacksUpLine (IsStateBeside v) (IsStateBeside w) (IsKnownStray v) (IsKnownStray w) limits s config v.told w.told from to r) same
-    (backs_up_beside v w s config limits from to result core can h)
 
 -- a deletion
 pub deletes_beside : (v w : View) (s n : ℕ) (result : Result Answer Fault) → ((pins : List Pin) → DeletesLine (IsStateWith v pins) (IsStateWith w pins) (IsKnownStray v) (IsKnownStray w) s n v.told w.told result)

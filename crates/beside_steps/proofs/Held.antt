@@ -1,5 +1,5 @@
 -- What a call of the keeper leaves of the restores that run.
-use Rattle.std.proofs.Common.{◌≡◌, ◌≢◌, ◌≤◌, ℕ, true, false, List, [], ◌∷◌, ◌++◌, map, Option, None, Some, refl, sym, ◌∙◌, ap, subst}
+use Rattle.std.proofs.Common.{◌≡◌, ◌≢◌, ◌≤◌, ◌<◌, ℕ, true, false, List, [], ◌∷◌, ◌++◌, map, length, get_or, Option, None, Some, refl, sym, ◌∙◌, ap, subst}
 use Rattle.std.specs.Prelude.{IsSome, IfSome}
 use Rattle.std.specs.List.{AllByRecursion}
 use Rattle.std.proofs.Math.Nat.{le_refl}
@@ -9,6 +9,7 @@ use Rattle.vault_traits.specs.Files.{ChangesOnly, AreKept}
 use Rattle.vault_traits.specs.Told.{Files}
 use Rattle.restore_pins.specs.Pins.{Listed, numbers, without_pin}
 use Rattle.commit_laws.proofs.Listing.{all_append, all_left, all_right, all_both}
+use Rattle.beside_runner.proofs.Served.{held_at}
 use Rattle.keeper_catalog.specs.View.{View}
 use Rattle.pin_laws.specs.Following.{Follows}
 use Rattle.pin_laws.proofs.Calls.{still}
@@ -128,3 +129,7 @@ holds_replied v files e d same first others h =
 -- one of those that run
 pub one_of : (v : View) (files : Option Files) (first : List BesideView) (e : BesideView) (others : List BesideView) → Holds v files (first ++ e ∷ others) → IsOne v files e
 one_of v files first e others h = (all_right (IsOne v files) first (e ∷ others) h.each).0
+
+-- the one at a place
+pub one_at : (v : View) (files : Option Files) (es : List BesideView) (at : ℕ) (e : BesideView) → at < length es → e ≡ get_or es at e → Holds v files es → IsOne v files e
+one_at v files es at e below is h = let parts = held_at (Holds v files) (Holds v files) es at e below is h in one_of v files parts.0 e parts.1 parts.2

@@ -8,13 +8,12 @@ use Rattle.restore_pins.specs.Pins.{Listed, numbers}
 use Rattle.store_model.specs.Steps.{Moment, StepsLine}
 use Rattle.beside_laws.specs.Progress.Underway.{answers_line}
 use Rattle.beside_runner.specs.Turns.{IsBegun}
-use Rattle.beside_runner.proofs.Served.{held_at, under_begun}
+use Rattle.beside_runner.proofs.Served.{under_begun}
 use Rattle.keeper_catalog.specs.View.{View}
 use Rattle.keeper_core.specs.Keeping.{IsKnownStray}
 use Rattle.restore_turns.specs.Entry.{IsStateBeside}
-use Rattle.beside_steps.specs.Holding.{BesideView, AreApart, Holds, IsOne, IsSameButReply, past_of}
-use Rattle.beside_steps.proofs.Held.{one_of}
-use Rattle.keeper_run.specs.Under.{told_of, IsUnder}
+use Rattle.beside_steps.specs.Holding.{BesideView, AreApart, Holds, IsSameButReply, past_of}
+use Rattle.beside_jobs.specs.Under.{told_of, IsUnder}
 
 pub past_replied : (e d : BesideView) → IsSameButReply e d → past_of d ≡ past_of e
 past_replied e d same = λ i. record {
@@ -31,10 +30,6 @@ past_replied e d same = λ i. record {
 -- none runs
 pub none_hold : (v : View) (files : Option Files) → v.job ≡ None → v.pins ≡ [] → Holds v files []
 none_hold v files job pins = record { job = job; each = tt; pins = ap numbers pins; apart = subst (λ (ps : List Listed). AreApart (numbers ps)) (sym pins) tt }
-
--- the one at a place
-pub one_at : (v : View) (files : Option Files) (es : List BesideView) (at : ℕ) (e : BesideView) → at < length es → e ≡ get_or es at e → Holds v files es → IsOne v files e
-one_at v files es at e below is h = let parts = held_at (Holds v files) (Holds v files) es at e below is h in one_of v files parts.0 e parts.1 parts.2
 
 module _ (limits : Limits) (lines : List Line) (start : Moment View) (i : ℕ) (answers : List Answer) (es : List BesideView) (v w : View) (p q : PlacesTold) (line is : Line) (below : i < length lines) (here : line ≡ get_or lines i line) (same : line ≡ is) where
   -- the line at this place has answered

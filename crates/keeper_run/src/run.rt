@@ -12,10 +12,11 @@ ghost use Rattle.keeper_catalog.specs.View.{View};
 ghost use Rattle.keeper_core.specs.Keeping.{IsKnownStray};
 ghost use Rattle.restore_turns.specs.Entry.{IsStateBeside};
 ghost use Rattle.beside_steps.specs.Holding.{Holds};
-ghost use Rattle.keeper_run.specs.Under.{IsUnder};
+ghost use Rattle.beside_jobs.specs.Under.{IsUnder};
 
 use crate::serving::{serve, serve_until};
-use beside_steps::{Beside, backup_line, begin_restore, delete_line};
+use beside_jobs::backup_beside;
+use beside_steps::{Beside, begin_restore, delete_line};
 use keeper_core::Keeper;
 use pipe_backup::Course;
 use std::alloc::Global;
@@ -98,8 +99,8 @@ where
     let line = &lines[at];
     match line {
         Line::Backup { set, name, config } => {
-            let answer = backup_line(
-                rt, alloc, scope, keeper, *set, name, config, places, limits, course,
+            let answer = backup_beside(
+                rt, alloc, scope, keeper, running, *set, name, config, places, limits, course,
             );
             answers[at] = answer;
         }

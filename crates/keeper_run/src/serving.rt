@@ -7,7 +7,7 @@ ghost use Rattle.vault_traits.specs.Told.{Files, PlacesTold};
 ghost use Rattle.store_model.specs.Steps.{Moment};
 ghost use Rattle.keeper_catalog.specs.View.{View};
 ghost use Rattle.beside_steps.specs.Holding.{BesideView, Holds, past_of};
-ghost use Rattle.keeper_run.specs.Under.{IsUnder};
+ghost use Rattle.beside_jobs.specs.Under.{IsUnder};
 
 use beside_steps::{Beside, end_restore, feed_restore, take_reply};
 use keeper_core::Keeper;

@@ -36,7 +36,8 @@ use Rattle.backup_jobs.proofs.Causes.{put_is_cause}
 use Rattle.seal_lane.specs.Lanes.{SealView}
 use Rattle.pipe_backup.specs.declared.sealing.Halt.{Halt}
 use Rattle.pipe_backup.specs.declared.sealing.Halt.TheVariants as halt
-use Rattle.pipe_backup.specs.Piping.{ComesTo, IsFilledFrom, IsJobFor, as_begun}
+use Rattle.pipe_backup.specs.Piping.{IsJobFor}
+use Rattle.pipe_backup.specs.Ending.{ComesTo, IsFilledFrom, as_begun}
 use Rattle.pipe_backup.proofs.Flows.{bytes_run, last_cause, named_run}
 
 front_len : {X : Type 0} (xs ys : List X) → IsFront xs ys → length xs ≤ length ys

@@ -11,7 +11,7 @@ use Rattle.stage_flows.proofs.Running.{run-part, run-last}
 use Rattle.source_reads.specs.Reading.{bytes_of}
 use Rattle.pipe_run.specs.Jobs.{JobView, named_item, named_items}
 use Rattle.backup_jobs.specs.Going.{part_of}
-use Rattle.pipe_backup.specs.Piping.{as_begun}
+use Rattle.pipe_backup.specs.Ending.{as_begun}
 
 -- parts, and then more of them
 pub run-more : {X : Type 0} (xs ys : List X) (l : Option Last) → run xs None ++ run ys l ≡ run (xs ++ ys) l

@@ -49,7 +49,7 @@ pub handed_as : (b : Began) (now : View) (lens : List ℕ) (s t : SealView) (giv
 handed_as b now lens s t given same h = subst (λ (v : SealView). HasHanded b now lens v given) (sym same) h
 
 -- one item more was handed
-handed_more : (b : Began) (now : View) (lens : List ℕ) (s t : SealView) (given : List (Flow Container)) (item : Flow Container) → t ≡ record s { given = s.given ++ item ∷ [] } → HasHanded b now lens s given → HasHanded b now lens t (given ++ item ∷ [])
+pub handed_more : (b : Began) (now : View) (lens : List ℕ) (s t : SealView) (given : List (Flow Container)) (item : Flow Container) → t ≡ record s { given = s.given ++ item ∷ [] } → HasHanded b now lens s given → HasHanded b now lens t (given ++ item ∷ [])
 handed_more b now lens s t given item is h = record {
   put = h.put;
   given_are = ap (λ (v : SealView). v.given) is ∙ ap (λ l. l ++ item ∷ []) h.given_are;

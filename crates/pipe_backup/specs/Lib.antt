@@ -1,2 +1,4 @@
 pub mod Sealing
 pub mod Piping
+pub mod Ending
+pub mod Loading

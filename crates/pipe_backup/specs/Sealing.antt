@@ -1,5 +1,5 @@
 -- What was handed to the sealing lane, and what is put of what came back.
-use Rattle.std.specs.Prelude.{◌≡◌, ◌<◌, ◌+◌, ℕ, List, length, None}
+use Rattle.std.specs.Prelude.{◌≡◌, ◌<◌, ◌+◌, ◌++◌, ℕ, List, length, Option, None, option_to_list}
 use Rattle.vault_types.specs.declared.How.{How}
 use Rattle.vault_types.specs.declared.Flow.{Flow}
 use Rattle.vault_types.specs.Names.{NamedChunk}
@@ -42,9 +42,10 @@ abbrev pub IsHalt : Began → View → SealView → Halt → Type 0
 IsHalt b now s (halt.Failed f) = IsPutStop b now f
 IsHalt b now s halt.Never = IsFront s.back s.given → ⊥
 
--- these parts went into the filler, and what it gave out was handed to the lane
-pub record IsFilling (b : Began) (now : View) (f : Filling) (lens : List ℕ) (s : SealView)
-    (parts : List (NamedChunk × How)) : Type 0 where
+-- these parts went into the filler, and what it gave out was handed to the lane, but for the container
+-- that is still held, if there is one
+pub record IsFilling (b : Began) (now : View) (f : Filling) (held : Option Container) (lens : List ℕ)
+    (s : SealView) (parts : List (NamedChunk × How)) : Type 0 where
   pub gone : List Container
-  pub filled : HasFilledParts b f gone parts
+  pub filled : HasFilledParts b f (gone ++ option_to_list held) parts
   pub handed : HasHanded b now lens s (run gone None)

@@ -1,30 +1,32 @@
-//! A backup into a store whose stream passes through stages in threads.
+//! A backup into a store whose stream passes through stages in threads: in one call, or in steps between which the caller
+//! does other things with the keeper.
 #![tactic(auto)]
 
-mod filling;
+mod ending;
 mod line;
 mod piping;
 mod sealing;
+mod stepping;
 
-ghost use Rattle.std.specs.Prelude.{◌≡◌, ◌≤◌, [], None, IfOk};
+ghost use Rattle.std.specs.Prelude.{◌≡◌, ◌≤◌, None};
 ghost use Rattle.vault_types.specs.JobRanges.{IsInRange};
 ghost use Rattle.backup_jobs.specs.Backup.{BacksUp};
+ghost use Rattle.backup_jobs.specs.Going.{Began};
+ghost use Rattle.pipe_backup.specs.Piping.{IsPiping, HasCome};
 
+pub use crate::ending::end_piped;
 pub use crate::line::backup_line_piped;
-use crate::piping::run;
-use crate::sealing::Span;
-use backup_jobs::{Opened, close_job, open_job};
-use container_fill::Filler;
+pub use crate::piping::{Ended, Piping, start_piped};
+pub use crate::stepping::step_piped;
 use keeper_core::Keeper;
-use pipe_lanes::stack_of;
-use pipe_run::{Job, JobRoom, StackSizes};
-use seal_lane::{SealLane, SealRoom};
+use pipe_run::StackSizes;
+use stage_threads::BackOff;
 use std::alloc::Global;
 use std::sync::Wait;
 use std::thread::{Scope, Threads};
 use std::time::Clock;
 use vault_traits::{Shelf, Source};
-use vault_types::{Answer, Fault, Id, JobConfig, Limits, Memory, Set};
+use vault_types::{Answer, Fault, JobConfig, Limits, Set, Turn};
 
 /// How a backup runs: how many items a line between two stages holds, at least 1; over how many lanes chunks are named, 1 to
 /// 8; and the stacks of the threads, that of the sealing lane apart.
@@ -36,23 +38,26 @@ pub struct Course {
     pub seal: Option<usize>,
 }
 
-// How many containers wait to be sealed at most, and how many to be put.
-const WAITING: u32 = 2;
-
-// All memory of the stages of a backup.
-fn rooms<I: Source + Drop>(
+// Makes a backup's steps to the last one.
+fn run_steps<I: Source + Drop, R: Wait + Clock, S: Shelf>(
+    rt: &R,
     alloc: Global,
-    course: Course,
-    sparse: Vec<Id>,
-) -> Result<(JobRoom<I>, SealRoom), Memory>
-    requires queue { 1 ≤ course.queue }
-    requires lanes { (1 ≤ course.lanes) × (course.lanes ≤ 8) }
-    ensures job { IfOk result (λ r. r.0 ≡ sparse.items) }
-    ensures lane { IfOk result (λ r. r.1 ≡ record { given = []; back = [] }) }
+    keeper: &mut Keeper<S>,
+    piping: &mut Piping<I>,
+) -> Ended
+    requires { (b : Began) × IsPiping b (λ (i : I). I.told i) keeper.old piping.old }
+    ensures { (b : Began) → IsPiping b (λ (i : I). I.told i) keeper.old piping.old
+        → HasCome b (λ (i : I). I.told i) keeper.new piping.new result }
 {
-    let job = JobRoom::new(alloc, course.queue, course.lanes, sparse)?;
-    let lane = SealRoom::new(alloc, WAITING)?;
-    Ok((job, lane))
+    let mut back_off = BackOff::new();
+    for _ in rt.forever() {
+        match step_piped(rt, alloc, keeper, piping) {
+            Err(ended) => return ended,
+            Ok(Turn::Moved) => back_off.reset(),
+            Ok(_) => back_off.wait(rt),
+        }
+    }
+    unreachable!()
 }
 
 /// Backs what the source has left up into a set of the store, as its next version, by stages in threads of the scope; a
@@ -87,43 +92,14 @@ pub fn backup_piped<
     ensures { BacksUp set config.now limits.now keeper.old keeper.new (I.told source) (I.told result.0)
         result.1 }
 {
-    let opened = match open_job(alloc, keeper, set, config, limits) {
-        Ok(opened) => opened,
-        Err(fault) => return (source, Err(fault)),
-    };
-    let Opened { job, sparse, index } = opened;
-    let mut lens = Vec::new(alloc);
-    let (room, lane_room) = match rooms(alloc, course, sparse) {
-        Ok(rooms) => rooms,
-        Err(_) => {
-            let answer = close_job(
-                alloc,
-                keeper,
-                &job,
-                index,
-                Err(Fault::Memory),
-                lens.as_slice(),
-            );
-            return (source, answer);
+    match start_piped(
+        rt, alloc, scope, keeper, set, source, config, limits, course,
+    ) {
+        Err((source, fault)) => (source, Err(fault)),
+        Ok(piping) => {
+            let mut piping = piping;
+            let ended = run_steps(&rt, alloc, keeper, &mut piping);
+            end_piped(&rt, alloc, keeper, piping, ended)
         }
-    };
-    let piped = Job::start_on(
-        rt,
-        room,
-        scope,
-        source,
-        index,
-        *config,
-        limits.chunks,
-        course.stacks,
-    );
-    let lane = SealLane::start(rt, lane_room, scope, stack_of(course.seal));
-    let filler = Filler::new(alloc, job.first, config.container);
-    let span = Span {
-        first: job.first,
-        limit: limits.chunks,
-    };
-    let (source, index, ended) = run(&rt, alloc, keeper, piped, lane, filler, span, &mut lens);
-    let answer = close_job(alloc, keeper, &job, index, ended, lens.as_slice());
-    (source, answer)
+    }
 }

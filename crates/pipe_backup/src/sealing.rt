@@ -1,5 +1,7 @@
 // Filled containers on their way through the sealing lane, and onto the shelf as they come back.
-ghost use Rattle.std.specs.Prelude.{◌≡◌, ◌∷◌, ◌++◌, [], List, None, Some, OnOk, IfOk, IfErr, option_to_list};
+ghost use Rattle.std.specs.Prelude.{◌≡◌, ◌∷◌, ◌++◌, [], List, None, Some, Ok, false, OnOk, IfOk, IfErr, option_to_list};
+ghost use Rattle.vault_types.specs.declared.Flow.TheVariants.{Part};
+ghost use Rattle.vault_types.specs.declared.Turn.TheVariants.{Moved, Idle, Done};
 ghost use Rattle.vault_types.specs.Stages.{IsFront};
 ghost use Rattle.vault_types.specs.Tables.{Container};
 ghost use Rattle.stage_flows.specs.declared.Last.TheVariants.{End as EndItem};
@@ -12,7 +14,7 @@ use container_fill::Unsealed;
 use container_store::Sealed;
 use keeper_core::Keeper;
 use seal_lane::SealLane;
-use stage_flows::parted;
+use stage_flows::{parted, refill};
 use stage_threads::BackOff;
 use std::alloc::Global;
 use std::sync::Wait;
@@ -66,7 +68,7 @@ fn put_sealed<S: Shelf>(
 }
 
 // Gives a kept stage a turn, and puts what came back, if something has. Whether something moved.
-fn put_some<R: Wait, S: Shelf>(
+pub(crate) fn put_some<R: Wait, S: Shelf>(
     rt: &R,
     alloc: Global,
     keeper: &mut Keeper<S>,
@@ -82,6 +84,8 @@ fn put_some<R: Wait, S: Shelf>(
     ensures err { (b : Began) (gone : List Container)
         → HasHanded b keeper.old lens.old.items lane.old (run gone None) → AreOfJob b gone → IsSpanOf b span
         → IfErr result (IsHalt b keeper.new lane.new) }
+    ensures idle { result ≡ Ok false → (keeper.new ≡ keeper.old) × (lane.new ≡ lane.old)
+        × (lens.new.items ≡ lens.old.items) }
 {
     let kept = lane.turn(rt);
     match lane.take(rt) {
@@ -133,6 +137,29 @@ fn hand<R: Wait + Clock, S: Shelf>(
         }
     }
     unreachable!()
+}
+
+// Hands the container that is held to the lane, if there is one and the lane has room: `Moved`. `Idle`, where it is held
+// still; `Done`, where there is none.
+pub(crate) fn hand_held<R: Wait>(rt: &R, lane: &mut SealLane, held: &mut Option<Unsealed>) -> Turn
+    ensures none { result ≡ Done → (held.old ≡ None) × (held.new ≡ None) × (lane.new ≡ lane.old) }
+    ensures idle { result ≡ Idle → (held.new ≡ held.old) × (lane.new ≡ lane.old) }
+    ensures moved { result ≡ Moved → (c : Container) × (held.old ≡ Some c) × (held.new ≡ None)
+        × (lane.new ≡ record lane.old { given = lane.old.given ++ Part c ∷ [] }) }
+{
+    let Some(unsealed) = held.take() else {
+        return Turn::Done;
+    };
+    match lane.offer(rt, Flow::Part(unsealed)) {
+        Ok(()) => Turn::Moved,
+        Err(back) => match parted(back) {
+            Ok(unsealed) => {
+                refill(held, Some(unsealed));
+                Turn::Idle
+            }
+            Err(_) => unreachable!(),
+        },
+    }
 }
 
 // Hands a container that the filler gave out to the lane, if there is one.

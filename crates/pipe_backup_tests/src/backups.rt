@@ -1,9 +1,11 @@
 // Backups of a source in memory into set 3, two versions of each. Each test ends whatever the schedule.
 ghost use Rattle.std.specs.Prelude.{◌≡◌, ◌≤◌, None, IfOk};
 ghost use Rattle.vault_types.specs.JobRanges.{IsInRange};
+ghost use Rattle.backup_jobs.specs.Going.{Began};
+ghost use Rattle.pipe_backup.specs.Piping.{IsPiping};
 
 use keeper_core::Keeper;
-use pipe_backup::{Course, backup_line_piped};
+use pipe_backup::{Course, Piping, backup_line_piped, start_piped, step_piped};
 use pipe_run::StackSizes;
 use serial_backup::backup_line;
 use std::alloc::Global;
@@ -13,8 +15,8 @@ use std::thread;
 use std::thread::Threads;
 use std::time::Clock;
 use vault_ports::{FaultShelf, FaultSource, MemShelf, MemSource};
-use vault_traits::Shelf;
-use vault_types::{Answer, Cutting, Fault, JobConfig, Limits, Rewrite};
+use vault_traits::{Shelf, Source};
+use vault_types::{Answer, Cutting, Fault, JobConfig, Kind as BlobKind, Limits, Name, Rewrite};
 
 // How a stream is cut and packed, and what is written again: nothing; what a segment refers to beside one container; or that
 // and what is in containers of which a version uses less than 60 hundredths. A single chunk is a container by itself.
@@ -356,7 +358,7 @@ fn a_backup_of_nothing_is_a_version(rt: HostRuntime) -> Result<(), Fail> {
 
 #[test]
 fn a_source_that_fails_is_told(rt: HostRuntime) -> Result<(), Fail> {
-    for read in [1, 4, 13] {
+    for read in 1..14u64 {
         let mut case = WHOLE;
         case.read = read;
         assert!(rt;
@@ -412,6 +414,83 @@ fn a_shelf_that_fails_while_containers_are_sealed(rt: HostRuntime) -> Result<(),
 // A stack that no host gives to a thread, or the usual one.
 fn size(is_refused: bool) -> Option<usize> {
     if is_refused { Some(usize::MAX) } else { None }
+}
+
+// Makes the steps of a backup, to the last one.
+fn make_steps<I: Source + Drop, S: Shelf, R: Wait>(
+    rt: &R,
+    alloc: Global,
+    keeper: &mut Keeper<S>,
+    piping: &mut Piping<I>,
+)
+    requires { (b : Began) × IsPiping b (λ (i : I). I.told i) keeper.old piping.old }
+{
+    for _ in rt.forever() {
+        match step_piped(rt, alloc, keeper, piping) {
+            Ok(_) => {}
+            Err(_) => return,
+        }
+    }
+    unreachable!()
+}
+
+// Whether the steps of a backup without threads put a payload, before its end puts those that are left.
+fn is_put_by_steps<R: Threads + Wait + Clock + Copy + Drop + Send>(
+    rt: R,
+    alloc: Global,
+    case: Case,
+) -> Result<bool, Fail> {
+    let mut course = course_of(2, 2);
+    course.stacks = StackSizes {
+        read: size(true),
+        sum: size(true),
+        chunk: size(true),
+        decide: size(true),
+        lanes: size(true),
+    };
+    course.seal = size(true);
+    thread::scope(
+        thread::scope_env(),
+        &rt,
+        |scope| -> Result<bool, Fail>
+            requires queue { 1 ≤ course.queue }
+            requires lanes { (1 ≤ course.lanes) × (course.lanes ≤ 8) }
+        {
+            let mut keeper = opened(alloc, case)?;
+            let (config, limits) = (settings(case.kind), limits_of(case)?);
+            let source = source_of(alloc, case, 1)?;
+            match start_piped(
+                rt,
+                alloc,
+                scope,
+                &mut keeper,
+                3,
+                source,
+                &config,
+                &limits,
+                course,
+            ) {
+                Err(_) => Err(Fail::from("the backup starts")),
+                Ok(piping) => {
+                    let mut piping = piping;
+                    make_steps(&rt, alloc, &mut keeper, &mut piping);
+                    let payload = Name {
+                        kind: BlobKind::Payload,
+                        number: 1,
+                    };
+                    Ok(keeper.close().into_inner().blob(payload).is_some())
+                }
+            }
+        },
+    )
+}
+
+#[test]
+fn steps_put_what_came_back(rt: HostRuntime) -> Result<(), Fail> {
+    let mut case = WHOLE;
+    case.kind = Kind::Single;
+    assert!(rt; is_put_by_steps(rt, rt.alloc(), case)?);
+    Ok(())
 }
 
 #[test]

@@ -6,7 +6,10 @@ mod commands;
 mod scripts;
 
 pub use commands::{GROUPS, LIMITED, LIMITS, SECOND};
-pub use scripts::{BAD_SCRIPTS, BATCH, File, Group, LINE_BY_LINE, SCRIPTS, TWO_AND_TWO, TWO_FILES};
+pub use scripts::{
+    BAD_SCRIPTS, BATCH, FAILED_CALLS, FailedCalls, File, Group, LINE_BY_LINE, SCRIPTS, TWO_AND_TWO,
+    TWO_FILES,
+};
 use vault_types::{Fault, Kind, Limits, Name};
 
 /// A run: its words, its input, and what it should end with and print.

@@ -185,4 +185,73 @@ pub const TWO_AND_TWO: Row = Row {
     ..BATCH
 };
 
+/// The script of `TWO_AND_TWO` where one call of its shelf fails, for each call from `first` to `last`.
+pub struct FailedCalls {
+    pub first: u64,
+    pub last: u64,
+    pub row: Row,
+}
+
+/// All calls of that script's shelf, from the one that opens the store on. With a failed call from the first deletion on
+/// the shelf ends with the second version alone.
+pub const FAILED_CALLS: &[FailedCalls] = &[
+    // the opening
+    FailedCalls {
+        first: 1,
+        last: 1,
+        row: Row {
+            status: 6,
+            fault: Some(Fault::StoreFault(1)),
+            out: b"",
+            report: b"error 6: store failed\n",
+            ..TWO_AND_TWO
+        },
+    },
+    // the first backup
+    FailedCalls {
+        first: 2,
+        last: 9,
+        row: Row {
+            status: 6,
+            out: b"error 6: store failed\n\
+                backup 1: 1 chunks, 4 bytes, 1 new containers, 4 bytes written, 0 sparse\n\
+                error 10: latest version\n\
+                error 10: latest version\n",
+            ..TWO_AND_TWO
+        },
+    },
+    // the second one
+    FailedCalls {
+        first: 10,
+        last: 14,
+        row: Row {
+            status: 6,
+            out: b"backup 1: 1 chunks, 4 bytes, 1 new containers, 4 bytes written, 0 sparse\n\
+                error 6: store failed\n\
+                error 10: latest version\n\
+                error 10: latest version\n",
+            ..TWO_AND_TWO
+        },
+    },
+    // the first deletion, before anything goes
+    FailedCalls {
+        first: 15,
+        last: 16,
+        row: Row {
+            status: 6,
+            out: b"backup 1: 1 chunks, 4 bytes, 1 new containers, 4 bytes written, 0 sparse\n\
+                backup 2: 1 chunks, 4 bytes, 1 new containers, 4 bytes written, 0 sparse\n\
+                error 6: store failed\n\
+                delete 1: floor 2, 1 containers reclaimed\n",
+            ..TWO_AND_TWO
+        },
+    },
+    // what it removes
+    FailedCalls {
+        first: 17,
+        last: 19,
+        row: TWO_AND_TWO,
+    },
+];
+
 pub const TWO_FILES: &[File] = &[("a", b"aaaa"), ("b", b"bbbb")];

@@ -1,8 +1,8 @@
 // Rows of scripts.
-use crate::running::{Seen, as_said, holds, lists, rows_are, run_with};
+use crate::running::{as_said, holds, lists, rows_are, run_with};
 use program_rows::{
-    BAD_SCRIPTS, BATCH, FIRST, File, Group, LINE_BY_LINE, PAYLOAD, Row, SCRIPTS, STANDARD, TEXT,
-    TWO_AND_TWO, TWO_FILES,
+    BAD_SCRIPTS, BATCH, FAILED_CALLS, FIRST, File, Group, LINE_BY_LINE, PAYLOAD, Row, SCRIPTS,
+    STANDARD, TEXT, TWO_AND_TWO, TWO_FILES,
 };
 use std::alloc::Global;
 use std::test::Fail;
@@ -160,65 +160,23 @@ fn a_deleted_version_takes_its_container_along(rt: HostRuntime) -> Result<(), Fa
     Ok(())
 }
 
-const ONE_STORED: &[u8] =
-    b"backup 1: 1 chunks, 4 bytes, 1 new containers, 4 bytes written, 0 sparse\n";
-
-fn lines_of(text: &[u8]) -> usize {
-    let mut lines = 0usize;
-    for byte in text {
-        if *byte == b'\n' {
-            lines = lines.saturating_add(1);
-        }
-    }
-    lines
-}
-
-// The status, how many lines were printed, whether the first is that of the first version, how many names are left and
-// whether the payload of the second version is there.
-type Left = (u8, usize, bool, usize, bool);
-
-// The script of two backups and two deletions over a shelf of which one call fails.
-fn left_by(alloc: Global, call: u64, keep: bool) -> Result<Left, Fail> {
+// Runs the script over a shelf of which this call fails, and says whether the second version is left alone where it is to be.
+fn call_fails(alloc: Global, row: &Row, call: u64, keep: bool) -> Result<bool, Fail> {
     let shelf = FaultShelf::new(MemShelf::new(alloc), [call].to_vec(alloc)?, keep);
     let mut places = places_of(alloc, TWO_FILES)?;
-    let source = MemSource::new(TWO_AND_TWO.input.to_vec(alloc)?, 3);
-    let seen = run_with(
-        alloc,
-        TWO_AND_TWO.words,
-        &STANDARD,
-        shelf,
-        &mut places,
-        source,
-        1_048_576,
-    )?;
-    let Seen {
-        status,
-        out,
-        shelf,
-        ..
-    } = seen;
-    let shelf = shelf.into_inner();
-    Ok((
-        status,
-        lines_of(out.as_slice()),
-        out.as_slice().starts_with(ONE_STORED),
-        shelf.names(alloc)?.as_slice().len(),
-        holds(&shelf, SECOND_PAYLOAD, b"bbbb"),
-    ))
+    let shelf = script_is(alloc, row, shelf, &mut places)?.into_inner();
+    let is_left = shelf.names(alloc)?.len() == 4 && holds(&shelf, SECOND_PAYLOAD, b"bbbb");
+    Ok(is_left || call < 15)
 }
 
 // Says at which call the script did not end as it should.
 fn each_call_fails_once(alloc: Global) -> Result<(), Fail> {
-    for call in 1..20u64 {
-        for keep in [false, true] {
-            let (status, lines, is_first, names, is_there) = left_by(alloc, call, keep)?;
-            let end = (status, lines, is_first);
-            let want_status = if call < 17 { 6 } else { 0 };
-            let want_lines = if call == 1 { 0 } else { 4 };
-            let is_left = call < 15 || (names == 4 && is_there);
-            if end != (want_status, want_lines, call >= 10) || !is_left {
-                let text = format!(in alloc; "at {call} {keep}: {end:?} {names} {is_there}")?;
-                return Err(Fail::new(text));
+    for calls in FAILED_CALLS {
+        for call in calls.first..=calls.last {
+            for keep in [false, true] {
+                if !call_fails(alloc, &calls.row, call, keep)? {
+                    return Err(Fail::new(format!(in alloc; "at call {call}, {keep}")?));
+                }
             }
         }
     }

@@ -3,6 +3,10 @@
 #![tactic(auto)]
 
 #[cfg(test)]
+mod both;
+#[cfg(test)]
+mod made;
+#[cfg(test)]
 mod rows;
 #[cfg(test)]
 mod running;

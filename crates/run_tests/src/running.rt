@@ -9,7 +9,7 @@ use std::test::Fail;
 use std::thread;
 use std::thread::Threads;
 use std::time::Clock;
-use vault_ports::{MemPlaces, MemShelf, MemSink, MemSource};
+use vault_ports::{FaultShelf, MemPlaces, MemShelf, MemSink, MemSource};
 use vault_types::Limits;
 
 /// The words of a text.
@@ -34,7 +34,7 @@ pub fn places_of(alloc: Global, files: &[File]) -> Result<MemPlaces, Fail> {
 fn as_said(
     alloc: Global,
     row: &Row,
-    ended: Ended<MemShelf, MemSource, MemSink>,
+    ended: Ended<FaultShelf, MemSource, MemSink>,
     report: MemSink,
 ) -> Result<MemShelf, Fail> {
     let Ended {
@@ -47,7 +47,7 @@ fn as_said(
     let (out, report) = (out.into_vec(), report.into_vec());
     let is_end = status == row.status && fault == row.fault;
     if is_end && out.as_slice() == row.out && report.as_slice() == row.report {
-        return Ok(shelf);
+        return Ok(shelf.into_inner());
     }
     let at = row.words;
     Err(Fail::new(format!(in alloc; "at {at}: ended with {status}, {fault:?}")?))
@@ -61,6 +61,19 @@ pub fn row_is<H: Threads + Wait + Clock + Copy + Drop + Send>(
     row: &Row,
     files: &[File],
     shelf: MemShelf,
+) -> Result<MemShelf, Fail> {
+    let sound = FaultShelf::new(shelf, Vec::new(alloc), false);
+    row_is_over(host, alloc, limits, row, files, sound)
+}
+
+/// The same over a shelf that may fail.
+pub fn row_is_over<H: Threads + Wait + Clock + Copy + Drop + Send>(
+    host: H,
+    alloc: Global,
+    limits: &Limits,
+    row: &Row,
+    files: &[File],
+    shelf: FaultShelf,
 ) -> Result<MemShelf, Fail> {
     let Limits {
         chunks,

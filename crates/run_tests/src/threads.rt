@@ -2,7 +2,8 @@
 ghost use Rattle.std.specs.Prelude.{◌<◌, length, All, OnOk};
 
 use crate::running::{places_of, words_of};
-use destor_top::{Ended, run};
+use destor_top::{Ended, run, run_plain};
+use meeting_places::MeetingPlaces;
 use program_rows::{PAYLOAD, STANDARD, TWO_FILES};
 use std::alloc::Global;
 use std::sync::Wait;
@@ -181,5 +182,69 @@ fn write_and_floor_meet<H: Threads + Wait + Clock + Copy + Drop + Send>(
 #[test]
 fn a_restore_writes_while_its_version_is_deleted(rt: HostRuntime) -> Result<(), Fail> {
     assert!(rt; write_and_floor_meet(rt, rt.alloc())? == (0, true, true, true));
+    Ok(())
+}
+
+// A shelf with one version, of four containers.
+fn with_four(alloc: Global) -> Result<MemShelf, Fail> {
+    let words = words_of(alloc, FOUR)?;
+    let mut places = MemPlaces::with(alloc, Vec::new(alloc), 0)?;
+    let mut report = MemSink::with(alloc, 1_000)?;
+    let ended = run_plain(
+        alloc,
+        words.as_slice(),
+        &STANDARD,
+        MemShelf::new(alloc),
+        &mut places,
+        MemSource::new(b"aaaabbbbccccdddd".to_vec(alloc)?, 16),
+        MemSink::with(alloc, 1_000)?,
+        &mut report,
+    );
+    Ok(ended.shelf)
+}
+
+const WITHIN: &[u8] = b"restore 1 x\nbackup a chunk=fixed size=4 rewrite=none\n";
+
+const WITHIN_TEXT: &[u8] = b"restore 1: 16 bytes, 4 loads\n\
+    backup 2: 1 chunks, 4 bytes, 0 new containers, 0 bytes written, 0 sparse\n";
+
+// Whether a restore is done whose last write a later backup's first read waits for, as that write for the read: the texts,
+// and the bytes.
+fn read_and_last_write_meet<H: Threads + Wait + Clock + Copy + Drop + Send>(
+    host: H,
+    alloc: Global,
+) -> Result<(u8, bool, bool), Fail> {
+    let words = words_of(alloc, "batch")?;
+    thread::scope(
+        thread::scope_env(),
+        &host,
+        |scope| -> Result<(u8, bool, bool), Fail> {
+            let mut places = MeetingPlaces::new(alloc, places_of(alloc, TWO_FILES)?, 3)?;
+            let mut report = MemSink::with(alloc, 1_000)?;
+            let ended = run(
+                host,
+                alloc,
+                scope,
+                words.as_slice(),
+                &STANDARD,
+                with_four(alloc)?,
+                &mut places,
+                MemSource::new(WITHIN.to_vec(alloc)?, 100),
+                MemSink::with(alloc, 1_000)?,
+                &mut report,
+            );
+            let is_restored = places.bytes("x") == Some(b"aaaabbbbccccdddd".as_slice());
+            Ok((
+                ended.status,
+                ended.out.into_vec().as_slice() == WITHIN_TEXT,
+                is_restored,
+            ))
+        },
+    )
+}
+
+#[test]
+fn a_restore_gets_its_payloads_while_a_backup_reads(rt: HostRuntime) -> Result<(), Fail> {
+    assert!(rt; read_and_last_write_meet(rt, rt.alloc())? == (0, true, true));
     Ok(())
 }

@@ -10,7 +10,7 @@ use Rattle.keeper_core.specs.Keeping.{IsKnownStray}
 use Rattle.restore_turns.specs.Entry.{IsStateBeside}
 use Rattle.beside_steps.specs.Holding.{BesideView, Holds, past_of}
 use Rattle.beside_steps.specs.Kept.{kept_beside, known_where_none_runs, none_pinned}
-use Rattle.keeper_run.specs.Under.{told_of, IsUnder}
+use Rattle.beside_jobs.specs.Under.{told_of, IsUnder}
 use Rattle.keeper_run.proofs.Turns.{none_hold}
 use Rattle.keeper_run.proofs.run.run_lines.Goals as goal
 

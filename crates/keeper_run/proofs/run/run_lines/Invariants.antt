@@ -1,7 +1,7 @@
 use Rattle.std.proofs.Common.{◌≤◌, length}
 use Rattle.std.specs.Prelude.{vec_capacity}
 use Rattle.beside_steps.specs.Holding.{Holds}
-use Rattle.keeper_run.specs.Under.{IsUnder}
+use Rattle.beside_jobs.specs.Under.{IsUnder}
 use Rattle.keeper_run.proofs.run.run_lines.Given as goal
 
 abbrev pub invariant-loop-at : goal.invariant-loop-at

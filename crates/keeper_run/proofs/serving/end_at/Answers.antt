@@ -4,8 +4,8 @@ use Rattle.restore_turns.specs.Entry.{IsStateBeside}
 use Rattle.beside_runner.proofs.Served.{held_less, under_ended, under_stands}
 use Rattle.beside_steps.specs.Holding.{BesideView, Holds, past_of}
 use Rattle.beside_steps.specs.Kept.{kept_beside}
-use Rattle.keeper_run.specs.Under.{told_of, IsUnder}
-use Rattle.keeper_run.proofs.Turns.{one_at}
+use Rattle.beside_jobs.specs.Under.{told_of, IsUnder}
+use Rattle.beside_steps.proofs.Held.{one_at}
 use Rattle.keeper_run.proofs.serving.end_at.Goals as goal
 
 pub end_restore-answer-requires-clause-one : goal.end_restore-answer-requires-clause-one

@@ -4,8 +4,8 @@ use Rattle.restore_turns.specs.Entry.{IsStateBeside}
 use Rattle.beside_runner.proofs.Served.{held_set, under_on}
 use Rattle.beside_steps.specs.Holding.{Holds, past_of}
 use Rattle.beside_steps.proofs.Going.{gone_on, holds_fed}
-use Rattle.keeper_run.specs.Under.{told_of}
-use Rattle.keeper_run.proofs.Turns.{one_at}
+use Rattle.beside_jobs.specs.Under.{told_of}
+use Rattle.beside_steps.proofs.Held.{one_at}
 use Rattle.keeper_run.proofs.serving.feed_at.Goals as goal
 
 pub feed_restore-requires : goal.feed_restore-requires

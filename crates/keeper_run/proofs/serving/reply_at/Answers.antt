@@ -2,7 +2,8 @@ use Rattle.std.proofs.Common.{◌<◌, length, arith}
 use Rattle.beside_runner.proofs.Served.{held_set, past_same}
 use Rattle.beside_steps.specs.Holding.{Holds, past_of}
 use Rattle.beside_steps.proofs.Held.{holds_replied}
-use Rattle.keeper_run.proofs.Turns.{past_replied, one_at}
+use Rattle.beside_steps.proofs.Held.{one_at}
+use Rattle.keeper_run.proofs.Turns.{past_replied}
 use Rattle.keeper_run.proofs.serving.reply_at.Goals as goal
 
 pub take_reply-requires : goal.take_reply-requires

@@ -4,7 +4,7 @@ use Rattle.beside_laws.specs.Running.{Past}
 use Rattle.keeper_catalog.specs.View.{View}
 use Rattle.keeper_core.specs.Keeping.{IsKnownStray}
 use Rattle.restore_turns.specs.Entry.{IsStateBeside}
-use Rattle.keeper_run.specs.Under.{told_of}
+use Rattle.beside_jobs.specs.Under.{told_of}
 use Rattle.keeper_run.proofs.serving.serve_one.Goals as goal
 
 pub reply_at-requires-clause-holds : goal.reply_at-requires-clause-holds

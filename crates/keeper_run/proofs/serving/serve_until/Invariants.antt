@@ -4,7 +4,7 @@ use Rattle.vault_types.specs.declared.Line.{Line}
 use Rattle.store_model.specs.Steps.{Moment}
 use Rattle.keeper_catalog.specs.View.{View}
 use Rattle.beside_steps.specs.Holding.{Holds}
-use Rattle.keeper_run.specs.Under.{IsUnder}
+use Rattle.beside_jobs.specs.Under.{IsUnder}
 use Rattle.keeper_run.proofs.serving.serve_until.Given as goal
 
 abbrev pub invariant-loop : goal.invariant-loop

@@ -173,5 +173,5 @@ def calls_on(store, words, folder, given=b""):
 
 def at_call(calls, call, at, what):
     """The words in front of a run by which strace does something at the call of that name and number on the store."""
-    paths = [word for path in calls.paths for word in ("-P", path)]
+    paths = [word for path in calls.paths for word in ("-P", path.rstrip("/"))]
     return ["strace", "-f", "-q", "-o", "/dev/null", *paths, "-e", f"trace={call}", "-e", f"inject={call}:{what}:when={at}"]

@@ -12,3 +12,4 @@ pub use closing::{Rest, StreamEnd, close_job};
 pub use filling::{finish_parts, take_part};
 pub use opening::{Job, Opened, open_job};
 pub use putting::{put_all, put_one};
+pub use sparse::sparse_ids;

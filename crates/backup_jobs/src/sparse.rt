@@ -66,9 +66,9 @@ fn payloads_of<S: Shelf>(
     Ok(payloads)
 }
 
-// The sparse list of a version, from its rows, the keeper's containers, and how many bytes the payload of each container
-// of the job has, of which the first has this id.
-pub(crate) fn sparse_ids<S: Shelf>(
+/// The sparse list of a version, from its rows, the keeper's containers, and how many bytes the payload of each container
+/// of the job has, of which the first has this id. The only error is `Memory`.
+pub fn sparse_ids<S: Shelf>(
     alloc: Global,
     keeper: &Keeper<S>,
     rows: &[Row],

@@ -12,3 +12,5 @@ pub mod Replaced
 pub mod Refusing
 pub mod Following
 pub mod BetweenLines
+pub mod NamedTables
+pub mod Copyings

@@ -7,3 +7,5 @@ pub mod Pins
 pub mod Releases
 pub mod Replacing
 pub mod Keeping
+pub mod NextNamed
+pub mod Copying

@@ -2,6 +2,8 @@
 //! the versions, the containers, the pins, the strays and the open job, and what a crash at any moment of it leaves.
 #![tactic(auto)]
 
+mod containers;
+mod copying;
 mod deletion;
 mod job;
 mod keeper;
@@ -10,5 +12,6 @@ mod replacing;
 mod starting;
 mod telling;
 
+pub use copying::PinnedRecipe;
 pub use keeper::{Begun, Keeper};
 pub use pinning::Pinned;

@@ -57,7 +57,11 @@ fn first_unnamed(markers: &SetMarkers, rows: &[Row]) -> Option<u32>
 }
 
 // Where the chunks of rows lie, each in a container that a version names.
-fn spots_in(alloc: Global, catalog: &Catalog, rows: &[Row]) -> Result<Vec<Spot>, Unplaced>
+pub(crate) fn spots_in(
+    alloc: Global,
+    catalog: &Catalog,
+    rows: &[Row],
+) -> Result<Vec<Spot>, Unplaced>
     requires few { length rows.now < 2 ^ 32 }
     requires rules { AreRuled (memo_of catalog.now).tables }
     ensures named { OnOk result ((marks : List Mark) → AreMarkersOfSets (memo_of catalog.now).markers marks
@@ -75,7 +79,7 @@ fn spots_in(alloc: Global, catalog: &Catalog, rows: &[Row]) -> Result<Vec<Spot>,
 }
 
 // The fault of a pin whose rows have no spots.
-fn fault_of(set: Set, version: Version, unplaced: Unplaced) -> Fault
+pub(crate) fn fault_of(set: Set, version: Version, unplaced: Unplaced) -> Fault
     ensures { result ≡ unplaced_fault set version unplaced }
 {
     match unplaced {

@@ -1,6 +1,6 @@
 -- Parts that fill containers, one by one.
-use Rattle.std.proofs.Common.{◌≡◌, ◌⊎◌, inl, inr, ℕ, ◌<◌, ◌≤◌, ◌+◌, List, [], ◌∷◌, ◌++◌, length, map, refl, sym, ap, ◌∙◌, subst, arith, length-append, append-nil, Option, Some, None}
-use Rattle.std.specs.Prelude.{Result, Ok, Err, OnOk, IfOk, IfErr, option_to_list}
+use Rattle.std.proofs.Common.{◌≡◌, inl, inr, ℕ, ◌<◌, ◌≤◌, ◌+◌, List, [], ◌∷◌, ◌++◌, length, map, refl, sym, ap, ◌∙◌, subst, arith, length-append, append-nil, Option, Some, None}
+use Rattle.std.specs.Prelude.{Result, Ok, Err, IfOk, IfErr, option_to_list}
 use Rattle.std.proofs.lemmas.List.{length-map, map-append}
 use Rattle.vault_types.specs.declared.Fault.TheVariants as fault
 use Rattle.vault_types.specs.declared.Flow.TheVariants.{Part}
@@ -23,7 +23,7 @@ use Rattle.backup_jobs.proofs.Parts.{gone_of_job}
 use Rattle.pipe_backup.specs.declared.sealing.Halt.{Halt}
 use Rattle.pipe_backup.specs.declared.sealing.Halt.TheVariants as halt
 use Rattle.pipe_backup.specs.declared.sealing.Span.{Span}
-use Rattle.pipe_backup.specs.Sealing.{IsSpanOf, HasHanded, IsHalt, IsFilling}
+use Rattle.pipe_backup.specs.Sealing.{IsSpanOf, IsHalt, IsFilling}
 use Rattle.pipe_backup.specs.Ending.{ComesTo}
 use Rattle.pipe_backup.proofs.Handing.{handed_more, handed_part}
 

@@ -48,9 +48,6 @@ module _ {I : Type 0} (now new : JobView I) (item : Flow Decided) (is : new ≡ 
   pub begun_still : (from : JobView I) → as_begun now ≡ as_begun from → as_begun new ≡ as_begun from
   begun_still from same = ap (λ (j : JobView I). as_begun j) is ∙ same
 
-  pub stopped_still : (from : JobView I) → now.stopped ≡ from.stopped → new.stopped ≡ from.stopped
-  stopped_still from same = ap (λ (j : JobView I). j.stopped) is ∙ same
-
 -- the bytes of a flow of reads
 pub bytes_run : (reads : List (List _)) (over : Option Last) → bytes_of (run reads over) ≡ concat reads
 bytes_run [] None = refl

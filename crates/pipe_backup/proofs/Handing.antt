@@ -1,6 +1,5 @@
 -- Containers on their way through the sealing lane and onto the shelf.
-use Rattle.std.proofs.Common.{◌≡◌, ◌⊎◌, inl, inr, ⊎_elim, ℕ, ◌+◌, ◌<◌, ◌≤◌, List, [], ◌∷◌, ◌++◌, length, map, refl, sym, ap, ◌∙◌, subst, append_assoc, Option, Some, None, arith}
-use Rattle.std.specs.Prelude.{Result, Ok, Err, OnOk, IfOk, IfErr}
+use Rattle.std.proofs.Common.{◌≡◌, ⊎_elim, ℕ, ◌+◌, ◌<◌, ◌≤◌, List, [], ◌∷◌, ◌++◌, length, sym, ap, ◌∙◌, subst, append_assoc, Option, Some, None, arith}
 use Rattle.std.proofs.lemmas.List.{length-map, map-append}
 use Rattle.vault_types.specs.declared.Flow.{Flow}
 use Rattle.vault_types.specs.declared.Flow.TheVariants.{Part}

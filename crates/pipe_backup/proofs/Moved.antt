@@ -1,5 +1,5 @@
 -- Payloads that are loaded within a backup's job: it is as if they had been loaded before the job began.
-use Rattle.std.proofs.Common.{◌≡◌, ◌⊎◌, ℕ, List, Option, None, Some, refl, sym, ap, ◌∙◌, subst}
+use Rattle.std.proofs.Common.{ℕ, List, Option, None, Some, refl, sym, ◌∙◌, subst}
 use Rattle.std.specs.Prelude.{Contains, IsSome, map}
 use Rattle.std.proofs.Math.Nat.{le_refl}
 use Rattle.vault_types.specs.declared.Fp.{Fp}
@@ -18,9 +18,9 @@ use Rattle.restore_pins.specs.Pins.{Listed, AreListsOf}
 use Rattle.state_laws.specs.Parts.{HeldIfTold}
 use Rattle.container_fill.specs.Filling.{Filling}
 use Rattle.keeper_catalog.specs.Catalog.{Memo, IsMemoOf}
-use Rattle.keeper_catalog.specs.View.{View, Keeps, job_info}
+use Rattle.keeper_catalog.specs.View.{View, Keeps}
 use Rattle.seal_lane.specs.Lanes.{SealView}
-use Rattle.backup_jobs.specs.Going.{Began, IsBegunAt, IsUnderway, AreNamed, HasPut, HasFilledParts, job_with}
+use Rattle.backup_jobs.specs.Going.{Began, IsUnderway, HasPut, job_with}
 use Rattle.pipe_backup.specs.Loading.{IsLoaded, counted_as, moved}
 use Rattle.pipe_backup.specs.Piping.{PipingView, IsPiping}
 use Rattle.pipe_backup.specs.Sealing.{IsFilling}

@@ -16,7 +16,6 @@ use Rattle.backup_jobs.specs.Backup.{BacksUp}
 use Rattle.backup_jobs.specs.declared.opening.Opened.{Opened}
 use Rattle.backup_jobs.specs.Going.{IsOpened, IsStopped, began_with}
 use Rattle.backup_jobs.proofs.Causes.{gives_none}
-use Rattle.pipe_backup.specs.declared.sealing.Span.{Span}
 use Rattle.pipe_backup.specs.Piping.{PipingView, IsJobFor, HasStartedPiping}
 
 module _ (s : ℕ) (config : JobConfig) (limits : Limits) (before now : View) (from : SourceTold) (o : Opened) (h : IsOpened s config limits before now from o) where

@@ -1,6 +1,6 @@
 -- The steps of a backup that runs.
-use Rattle.std.proofs.Common.{◌≡◌, ◌⊎◌, inl, inr, ℕ, ◌<◌, ◌≤◌, ◌+◌, List, [], ◌∷◌, ◌++◌, length, map, refl, sym, ap, ◌∙◌, subst, arith, length-append, Option, Some, None}
-use Rattle.std.specs.Prelude.{Result, Ok, Err, option_to_list}
+use Rattle.std.proofs.Common.{◌≡◌, inl, inr, ℕ, ◌<◌, ◌≤◌, ◌+◌, List, [], ◌∷◌, ◌++◌, length, map, refl, sym, ap, ◌∙◌, subst, arith, length-append, Option, Some, None}
+use Rattle.std.specs.Prelude.{Ok, Err, option_to_list}
 use Rattle.vault_types.specs.declared.Fault.TheVariants as fault
 use Rattle.vault_types.specs.declared.Flow.{Flow}
 use Rattle.vault_types.specs.declared.Flow.TheVariants.{Part}
@@ -19,7 +19,6 @@ use Rattle.keeper_catalog.specs.View.{View}
 use Rattle.pipe_run.specs.Jobs.{JobView}
 use Rattle.seal_lane.specs.Lanes.{SealView}
 use Rattle.backup_jobs.specs.Going.{Began, HasFilledParts, part_of}
-use Rattle.pipe_backup.specs.declared.piping.Ended.{Ended}
 use Rattle.pipe_backup.specs.declared.sealing.Halt.{Halt}
 use Rattle.pipe_backup.specs.declared.sealing.Halt.TheVariants as halt
 use Rattle.pipe_backup.specs.Sealing.{HasHanded, IsHalt, IsFilling}

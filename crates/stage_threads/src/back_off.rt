@@ -37,7 +37,7 @@ impl Model for BackOff {
 
 impl BackOff {
     /// From so many pauses in a row on, all are alike: sleeps of 2,048 microseconds.
-    pub const LONGEST: u32 = 45;
+    pub const LONGEST: u32 = 151;
 
     pub fn new() -> BackOff
         ensures { result ≡ 0 }
@@ -62,7 +62,10 @@ impl BackOff {
         match after {
             0..=6 => Pause::Spin(1 << after),
             7..=38 => Pause::Yield,
-            _ => Pause::Sleep(32 << (after - 39)),
+            39..=102 => Pause::Sleep(32),
+            103..=134 => Pause::Sleep(128),
+            135..=150 => Pause::Sleep(512),
+            _ => Pause::Sleep(2048),
         }
     }
 

@@ -54,7 +54,7 @@ fn advance(
 )
     requires { (c : Way) × (reads : List (List ℕ))
         × HasChunked c limit reads None cutter.old count.old dealer.old holder.old.raised
-        × (dealer.old.ready ≡ []) }
+        × (dealer.old.later.items ≡ []) }
     ensures chunked { (c : Way) (reads : List (List ℕ))
         → HasChunked c limit reads None cutter.old count.old dealer.old holder.old.raised
         → HasChunked c limit (reads ++ read_of item) (last_of item) cutter.new count.new dealer.new holder.new.raised }

@@ -1,7 +1,8 @@
 // The stage with its lines.
-ghost use Rattle.std.specs.Prelude.{◌≡◌, ◌≤◌, ◌+◌, ◌||◌, ◌&&◌, ℕ, List, [], ◌++◌, None, true, false, MatchOption};
+ghost use Rattle.std.specs.Prelude.{◌≡◌, ◌≢◌, ◌≤◌, ◌+◌, ◌||◌, ◌&&◌, ℕ, List, [], ◌++◌, None, true, false, MatchOption};
 ghost use Rattle.std.specs.Option.{is_some};
 ghost use Rattle.vault_types.specs.declared.Fp.{Fp as Print};
+ghost use Rattle.vault_types.specs.declared.Turn.TheVariants.{Moved, Done};
 ghost use Rattle.vault_types.specs.Names.{NamedChunk};
 ghost use Rattle.vault_types.specs.Decide.{Rules};
 ghost use Rattle.stage_lanes.specs.Steps.{lines_of, ends_of, all_sent, all_taken};
@@ -94,7 +95,7 @@ fn advance(
     item: Result<Chunk, Last>,
 )
     requires { (index : List (Print × List ℕ)) × (r : Rules) × (chunks : List NamedChunk)
-        × HasJudged index r limit chunks None goes.old gatherer.old count.old dealer.old holder.old.raised × (dealer.old.ready ≡ []) }
+        × HasJudged index r limit chunks None goes.old gatherer.old count.old dealer.old holder.old.raised × (dealer.old.later.items ≡ []) }
     ensures judged { (index : List (Print × List ℕ)) (r : Rules) (chunks : List NamedChunk)
         → HasJudged index r limit chunks None goes.old gatherer.old count.old dealer.old holder.old.raised
         → HasJudged index r limit (chunks ++ chunk_of item) (last_in item) goes.new gatherer.new count.new dealer.new holder.new.raised }
@@ -113,8 +114,28 @@ fn advance(
     dealer.give(parts, last);
 }
 
+// Up to this length of a segment, in bytes, the next segment is gathered while the decisions on one
+// before it are sent.
+const AHEAD: u32 = 16_777_216;
+
+// Whether a stage takes more where its dealer came to this: where nothing waits, and also where a
+// line is full, but no decisions wait behind others.
+fn takes_more(dealt: Turn, segment: u32, dealer: &Dealer<Decided>) -> bool
+    requires { dealt ≡ Done → (dealer.now.later.items ≡ []) }
+    ensures room { result ≡ true → (dealer.now.later.items ≡ []) }
+    ensures idle { result ≡ true → dealt ≢ Moved }
+    ensures done { result ≡ false → dealt ≢ Done }
+{
+    match dealt {
+        Turn::Moved => false,
+        Turn::Idle => segment <= AHEAD && dealer.has_room(),
+        Turn::Done => true,
+    }
+}
+
 /// Takes named chunks from its lanes in turn, decides for each segment that is complete, and sends the
-/// decisions. Contracts see its settings, the index that it was lent, its ends, the last item that it
+/// decisions; while those on one segment wait for a line, it gathers the next one, unless segments are
+/// long. Contracts see its settings, the index that it was lent, its ends, the last item that it
 /// took, whether all that it has to send so far was sent, and its holder.
 #[derive(Drop)]
 pub struct DecideStage {
@@ -237,13 +258,9 @@ impl Stage for DecideStage {
     ghost turned = { λ a turn b. Tells turn (all_taken a.lanes + all_sent a.outs) (all_taken b.lanes + all_sent b.outs) (is_some b.over && b.through) };
 
     fn turn<R: Wait>(&mut self, rt: &R) -> Turn {
-        match self.dealer.turn(rt) {
-            Turn::Moved => return Turn::Moved,
-            Turn::Idle => return Turn::Idle,
-            Turn::Done => {}
-        }
-        if self.picker.is_over() {
-            return Turn::Done;
+        let dealt = self.dealer.turn(rt);
+        if !takes_more(dealt, self.config.segment, &self.dealer) || self.picker.is_over() {
+            return dealt;
         }
         match self.picker.take(rt) {
             None => Turn::Idle,

@@ -7,7 +7,7 @@ use Rattle.stage_flows.specs.declared.Last.{Last}
 use Rattle.stage_flows.specs.Runs.{item_of}
 use Rattle.stage_lanes.specs.Lanes.{after, lane_after, AllAt, dealt_to, picked_from}
 use Rattle.stage_lanes.specs.Steps.{Stays, HasSent, HasTaken}
-use Rattle.stage_lanes.specs.Dealing.{HasDealt, HasPicked}
+use Rattle.stage_lanes.specs.Dealing.{HasDealt, HasPicked, waiting}
 use Rattle.stage_lanes.specs.declared.dealer.Dealer.{Dealer}
 use Rattle.stage_lanes.specs.declared.picker.Picker.{Picker}
 use Rattle.stage_lanes.proofs.Dealt.{lane_after-snoc, none_told, dealt_here, dealt_there, told_here, told_there, picked_here, picked_there, last_here, last_there}
@@ -23,30 +23,30 @@ module _ {X : Type 0} where
   same_rule : (lanes : List (Sender (Flow X))) (n m : ℕ) (dealt : List X) (last last' : Option Last) (k k' : ℕ) → n ≡ m → last ≡ last' → k ≡ k' → AllAt sent_by lanes (dealt_to n dealt last k) → AllAt sent_by lanes (dealt_to m dealt last' k')
   same_rule lanes n m dealt last last' k k' p q r all j t at = all j t at ∙ (λ i. dealt_to (p i) dealt (q i) (r i) j)
 
-  pub HasDealt_still : (d e : Dealer X) (parts : List X) (l : Option Last) → HasDealt d parts l → length e.lanes.items ≡ length d.lanes.items → e.next ≡ d.next → e.ready ≡ d.ready → e.last ≡ d.last → e.told ≡ d.told → Stays sent_by d.lanes.items e.lanes.items → HasDealt e parts l
+  pub HasDealt_still : (d e : Dealer X) (parts : List X) (l : Option Last) → HasDealt d parts l → length e.lanes.items ≡ length d.lanes.items → e.next ≡ d.next → waiting e ≡ waiting d → e.last ≡ d.last → e.told ≡ d.told → Stays sent_by d.lanes.items e.lanes.items → HasDealt e parts l
   HasDealt_still d e parts l h len next ready last told stays = record {
     dealt = h.dealt;
     all = h.all ∙ ap (λ r. h.dealt ++ r) (sym ready);
     below = omega (arith, h.below, len, next);
     turn = next ∙ h.turn ∙ ap (λ n. lane_after n 0 h.dealt) (sym len);
     last_is = last ∙ h.last_is;
-    told = ⊎_elim (λ (z : d.told ≡ 0). inl (told ∙ z)) (λ (z : d.ready ≡ []). inr (ready ∙ z)) h.told;
+    told = ⊎_elim (λ (z : d.told ≡ 0). inl (told ∙ z)) (λ (z : waiting d ≡ []). inr (ready ∙ z)) h.told;
     most = omega (arith, h.most, len, told);
     open_yet = λ z. told ∙ h.open_yet (sym last ∙ z);
     lanes = same_rule e.lanes.items (length d.lanes.items) (length e.lanes.items) h.dealt l l d.told e.told (sym len) refl (sym told) (stays (dealt_to (length d.lanes.items) h.dealt l d.told) h.lanes);
   }
 
-  pub HasDealt_part : (d e : Dealer X) (x : X) (parts : List X) (l : Option Last) → HasDealt d parts l → d.ready ≡ x ∷ e.ready → HasSent d.lanes.items d.next (Part x) e.lanes.items → length e.lanes.items ≡ length d.lanes.items
+  pub HasDealt_part : (d e : Dealer X) (x : X) (parts : List X) (l : Option Last) → HasDealt d parts l → waiting d ≡ x ∷ waiting e → HasSent d.lanes.items d.next (Part x) e.lanes.items → length e.lanes.items ≡ length d.lanes.items
       → e.next ≡ after (length d.lanes.items) d.next → e.next < length d.lanes.items → e.last ≡ d.last → e.told ≡ d.told → HasDealt e parts l
   HasDealt_part d e x parts l h ready sent len next below last told =
       let n = length d.lanes.items in
-      let none : d.told ≡ 0 = ⊎_elim (λ (z : d.told ≡ 0). z) (λ (z : d.ready ≡ []). let clash : x ∷ e.ready ≡ [] = sym ready ∙ z in cc) h.told in
+      let none : d.told ≡ 0 = ⊎_elim (λ (z : d.told ≡ 0). z) (λ (z : waiting d ≡ []). let clash : x ∷ waiting e ≡ [] = sym ready ∙ z in cc) h.told in
       let all0 : AllAt sent_by d.lanes.items (dealt_to n h.dealt l 0) = same_rule d.lanes.items n n h.dealt l l d.told 0 refl refl none h.lanes in
       let all1 : AllAt sent_by e.lanes.items (dealt_to n (h.dealt ++ x ∷ []) l 0) =
       sent.all (dealt_to n h.dealt l 0) (dealt_to n (h.dealt ++ x ∷ []) l 0) all0 (dealt_here n d.next h.dealt l x h.turn) (dealt_there n d.next h.dealt l x h.turn) in
       record {
         dealt = h.dealt ++ x ∷ [];
-        all = h.all ∙ ap (λ r. h.dealt ++ r) ready ∙ sym (append_assoc h.dealt (x ∷ []) e.ready);
+        all = h.all ∙ ap (λ r. h.dealt ++ r) ready ∙ sym (append_assoc h.dealt (x ∷ []) (waiting e));
         below = omega (arith, below, len);
         turn = next ∙ ap (after n) h.turn ∙ sym (lane_after-snoc n 0 h.dealt x) ∙ ap (λ k. lane_after k 0 (h.dealt ++ x ∷ [])) (sym len);
         last_is = last ∙ h.last_is;
@@ -56,8 +56,8 @@ module _ {X : Type 0} where
         lanes = same_rule e.lanes.items n (length e.lanes.items) (h.dealt ++ x ∷ []) l l 0 e.told (sym len) refl (sym (told ∙ none)) all1;
       }
 
-  pub HasDealt_told : (d e : Dealer X) (k : Last) (parts : List X) (l : Option Last) → HasDealt d parts l → d.ready ≡ [] → d.last ≡ Some k → d.told < length d.lanes.items → HasSent d.lanes.items d.told (item_of k) e.lanes.items → length e.lanes.items ≡ length d.lanes.items
-      → e.next ≡ d.next → e.ready ≡ d.ready → e.last ≡ d.last → e.told ≡ d.told + 1 → HasDealt e parts l
+  pub HasDealt_told : (d e : Dealer X) (k : Last) (parts : List X) (l : Option Last) → HasDealt d parts l → waiting d ≡ [] → d.last ≡ Some k → d.told < length d.lanes.items → HasSent d.lanes.items d.told (item_of k) e.lanes.items → length e.lanes.items ≡ length d.lanes.items
+      → e.next ≡ d.next → waiting e ≡ waiting d → e.last ≡ d.last → e.told ≡ d.told + 1 → HasDealt e parts l
   HasDealt_told d e k parts l h none is few sent len next ready last told =
       let n = length d.lanes.items in
       let known : l ≡ Some k = sym h.last_is ∙ is in
@@ -76,8 +76,8 @@ module _ {X : Type 0} where
         lanes = same_rule e.lanes.items n (length e.lanes.items) h.dealt (Some k) l (d.told + 1) e.told (sym len) (sym known) (sym told) all1;
       }
 
-  pub HasDealt_given : (d e : Dealer X) (before more : List X) (l : Option Last) → HasDealt d before None → d.ready ≡ [] → e.lanes.items ≡ d.lanes.items → e.next ≡ d.next → e.ready ≡ more → e.last ≡ l → e.told ≡ d.told → HasDealt e (before ++ more) l
-  HasDealt_given d e before more l h none lanes next ready last told =
+  pub HasDealt_given : (d e : Dealer X) (before more : List X) (l : Option Last) → HasDealt d before None → e.lanes.items ≡ d.lanes.items → e.next ≡ d.next → waiting e ≡ waiting d ++ more → e.last ≡ l → e.told ≡ d.told → HasDealt e (before ++ more) l
+  HasDealt_given d e before more l h lanes next ready last told =
       let n = length d.lanes.items in
       let len : length e.lanes.items ≡ length d.lanes.items = ap length lanes in
       let zero_told : d.told ≡ 0 = h.open_yet h.last_is in
@@ -85,7 +85,7 @@ module _ {X : Type 0} where
       let all1 : AllAt sent_by e.lanes.items (dealt_to n h.dealt l 0) = λ j t at. all0 j t at ∙ none_told n h.dealt None j ∙ sym (none_told n h.dealt l j) in
       record {
         dealt = h.dealt;
-        all = ap (λ b. b ++ more) (h.all ∙ ap (λ r. h.dealt ++ r) none ∙ append-nil h.dealt) ∙ ap (λ r. h.dealt ++ r) (sym ready);
+        all = ap (λ b. b ++ more) h.all ∙ append_assoc h.dealt (waiting d) more ∙ ap (λ r. h.dealt ++ r) (sym ready);
         below = omega (arith, h.below, len, next);
         turn = next ∙ h.turn ∙ ap (λ m. lane_after m 0 h.dealt) (sym len);
         last_is = last;

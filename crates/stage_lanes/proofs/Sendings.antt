@@ -9,7 +9,7 @@ use Rattle.stage_queue.specs.Ends.{Sender}
 use Rattle.stage_flows.specs.declared.Last.{Last}
 use Rattle.stage_flows.specs.Runs.{run, closing}
 use Rattle.stage_lanes.specs.Lanes.{lane_parts, lane_after}
-use Rattle.stage_lanes.specs.Dealing.{HasDealt}
+use Rattle.stage_lanes.specs.Dealing.{HasDealt, waiting}
 use Rattle.stage_lanes.specs.declared.dealer.Dealer.{Dealer}
 use Rattle.stage_lanes.proofs.Fronts.{lane_parts-append}
 
@@ -25,12 +25,12 @@ dealt_front {X} d given l h j t at = subst (λ z. IsFront z (run (lane_parts (le
     step false e =
         let n = length d.lanes.items in
         let A = lane_parts n 0 j h.dealt in
-        let B = lane_parts n (lane_after n 0 h.dealt) j d.ready in
-        let whole : as_parts (lane_parts n 0 j given) ≡ as_parts A ++ as_parts B = ap (λ q. as_parts (lane_parts n 0 j q)) h.all ∙ ap as_parts (lane_parts-append n 0 j h.dealt d.ready) ∙ as_parts-append A B in
+        let B = lane_parts n (lane_after n 0 h.dealt) j (waiting d) in
+        let whole : as_parts (lane_parts n 0 j given) ≡ as_parts A ++ as_parts B = ap (λ q. as_parts (lane_parts n 0 j q)) h.all ∙ ap as_parts (lane_parts-append n 0 j h.dealt (waiting d)) ∙ as_parts-append A B in
         (as_parts B ++ closing l, ap (λ q. q ++ (as_parts B ++ closing l)) (append-nil (as_parts A)) ∙ sym (append_assoc (as_parts A) (as_parts B) (closing l)) ∙ ap (λ q. q ++ closing l) (sym whole))
     step true e =
         let n = length d.lanes.items in
         let below : j < d.told = grind (arith, nat_tests) in
-        let none : d.ready ≡ [] = ⊎_elim (λ (z : d.told ≡ 0). absurd (omega arith)) (λ z. z) h.told in
+        let none : (waiting d) ≡ [] = ⊎_elim (λ (z : d.told ≡ 0). absurd (omega arith)) (λ z. z) h.told in
         let same : given ≡ h.dealt = h.all ∙ ap (λ q. h.dealt ++ q) none ∙ append-nil h.dealt in
         ([], append-nil (as_parts (lane_parts n 0 j h.dealt) ++ closing l) ∙ ap (λ q. as_parts (lane_parts n 0 j q) ++ closing l) (sym same))

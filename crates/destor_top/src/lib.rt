@@ -69,7 +69,7 @@ pub fn run<
     S: Shelf,
     P: Places,
     I: Source + Drop + Send + 's,
-    O: Sink + Send,
+    O: Sink + Drop + Send + 's,
     R: Sink,
 >(
     rt: T,

@@ -10,6 +10,7 @@ ghost use Rattle.command_runner.specs.Completes.{IsCompleteRun};
 use crate::backing::run_backup;
 use crate::beside::run_beside;
 use crate::filling::run_fill;
+use crate::restoring::run_restore;
 use command_runner::{Ended, ended_early, ended_lines, run_command};
 use keeper_store::KeeperStore;
 use pipe_backup::Course;
@@ -100,7 +101,7 @@ fn run_words<
     S: Shelf,
     P: Places,
     I: Source + Drop + Send + 's,
-    O: Sink,
+    O: Sink + Drop + Send + 's,
     R: Sink,
 >(
     rt: T,
@@ -148,6 +149,17 @@ where
                 input,
                 out,
                 report,
+            ),
+            Some(_) => ended_early(alloc, Fault::Usage, shelf, input, out, report),
+        },
+        Command::Restore {
+            set,
+            version,
+            cache,
+            area,
+        } => match area {
+            None => run_restore(
+                rt, alloc, scope, set, version, cache, shelf, input, out, report,
             ),
             Some(_) => ended_early(alloc, Fault::Usage, shelf, input, out, report),
         },
@@ -205,7 +217,7 @@ pub fn run_threaded<
     S: Shelf,
     P: Places,
     I: Source + Drop + Send + 's,
-    O: Sink,
+    O: Sink + Drop + Send + 's,
     R: Sink,
 >(
     rt: T,

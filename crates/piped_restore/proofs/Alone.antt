@@ -1,5 +1,5 @@
 -- A restore that runs alone: it starts, it is given payloads, and its reply is taken.
-use Rattle.std.proofs.Common.{◌≡◌, ⊎_elim, ℕ, ◌≤◌, List, [], Option, None, Some, refl, sym, ap, subst, ◌∙◌, arith}
+use Rattle.std.proofs.Common.{◌≡◌, ⊎_elim, ℕ, ◌≤◌, List, [], ◌∷◌, ◌++◌, ◌+◌, Option, None, Some, refl, sym, ap, subst, ◌∙◌, arith}
 use Rattle.std.proofs.Math.Nat.{le_refl}
 use Rattle.vault_traits.specs.Counts.{counted_up, Rose}
 use Rattle.vault_traits.specs.Told.{SinkTold}
@@ -53,3 +53,15 @@ replied_alone v r q replied is alone = subst (λ (y : RunningView). RunsAlone v 
   gets = alone.gets;
   met = alone.met;
 })
+
+-- the rest of it is as it was at first
+pub rest_replied : (first r q : RunningView) (replied : List Reply) → r ≡ record first { got = r.got; met = r.met; sent = r.sent; replied = r.replied } → q ≡ record r { replied = replied } → q ≡ record first { got = q.got; met = q.met; sent = q.sent; replied = q.replied }
+rest_replied first r q replied same is = subst (λ (y : RunningView). y ≡ record first { got = y.got; met = y.met; sent = y.sent; replied = y.replied }) (sym is) (ap (λ (z : RunningView). record z { replied = replied }) same)
+
+pub rest_fed : (v w : View) (first r q : RunningView) → r ≡ record first { got = r.got; met = r.met; sent = r.sent; replied = r.replied } → HasFed v w r q → q ≡ record first { got = q.got; met = q.met; sent = q.sent; replied = q.replied }
+rest_fed v w first r q same fed = subst (λ (y : RunningView). y ≡ record first { got = y.got; met = y.met; sent = y.sent; replied = y.replied }) (sym fed.is)
+    (ap (λ (z : RunningView). record z { got = r.got + fed.more; met = fed.met; sent = fed.sent }) same)
+
+-- the first reply that was taken
+pub first_reply : (r q : RunningView) (y : Reply) → r.replied ≡ [] → q ≡ record r { replied = r.replied ++ y ∷ [] } → q.replied ≡ y ∷ []
+first_reply r q y none is = ap (λ (z : RunningView). z.replied) is ∙ ap (λ (ys : List Reply). ys ++ y ∷ []) none

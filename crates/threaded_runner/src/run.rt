@@ -205,9 +205,10 @@ where
     }
 }
 
-/// Runs the command that the words are; the streams of backups pass through stages in threads of the scope, and restores of a
-/// script run in threads beside its later lines; a stage whose thread is refused runs in this one. What ends the run before its first line is told on `report`: `Usage` where the words are
-/// no command, or one that is not built yet; the faults of reading a script; and those of opening the shelf. A line that is
+/// Runs the command that the words are; the streams of backups pass through stages in threads of the scope, the bytes of a
+/// restore are put together in one, and restores of a script run in threads beside its later lines; a stage whose thread is
+/// refused runs in this one. What ends the run before its first line is told on `report`: `Usage` where the words are no
+/// command, or one that is not built yet; the faults of reading a script; and those of opening the shelf. A line that is
 /// refused has its fault as its answer. The report is on `out`, and on `report` where `out` gets a version; one that could
 /// not be written is a `WriteFault`, and what was done stands.
 pub fn run_threaded<

@@ -78,6 +78,7 @@ module _ (v u : View) (s n slots : ℕ) (name : List ℕ) (place : ℕ) (before 
   one_begun = record {
     running = subst (λ (w : View). IsRunning w e.restore) (st.behind ∙ b.behind) st.running;
     started = st.started;
+    fresh = ap (λ (t : SinkTold). t.faults) st.sink_is ∙ fresh.fresh;
     empty = subst (λ (t : SinkTold). IfSome behind.files (λ f. t.taken ≡ Some [])) (sym st.sink_is) (told_on (sink.taken ≡ Some []) before.files behind.files (told_before before.files behind.files name IsEmptied opened) fresh.taken);
     unreplied = λ is. st.replied;
   }
@@ -109,6 +110,7 @@ module _ (v w : View) (places : PlacesTold) (e d : BesideView) (fed : HasFed v w
   one_fed same running one = record {
     running = running;
     started = subst (λ (r : RunningView). IsStarted r) (sym fed.is) one.started;
+    fresh = ap (λ (r : RunningView). r.first.sink.faults) fed.is ∙ one.fresh;
     empty = subst (λ (r : RunningView). IfSome places.files (λ f. r.first.sink.taken ≡ Some [])) (sym fed.is) one.empty;
     unreplied = λ is. ap (λ (r : RunningView). r.replied) fed.is ∙ one.unreplied (sym same ∙ is);
   }
@@ -128,7 +130,7 @@ module _ (v x : View) (before behind : PlacesTold) (e : BesideView) (sink : Sink
       (with_answer (restore_answer behind.write_faults (result_of e.restore.set e.restore.version e.restore.ids y)) (past_of e)) (record { keeper = x; places = behind })
   has_ended limits y one replied place read write =
       ends_restore (λ k. k.told) IsStateBeside IsKnownStray limits (record { keeper = v; places = before }) (record { keeper = x; places = behind }) (past_of e) e.restore.from e.restore.behind v e.restore.number e.restore.ids e.restore.first e.restore.sent y sink
-      one.started one.running replied (λ S other here. here) one.empty (release_leaves v x e.restore.number r) r.gets closed place read write
+      one.started one.running replied (λ S other here. here) one.fresh one.empty (release_leaves v x e.restore.number r) r.gets closed place read write
 
   -- with the answer that its result comes to
   pub has_answered : (limits : Limits) (y : Reply) → IsOne v before.files e → HasReplied e.restore.first e.restore.sent y sink

@@ -50,6 +50,7 @@ module _ (v w : View) (a b : Option Files) (later : v.told.faults ≤ w.told.fau
   one_follows e follows one = record {
     running = entry_follows e.restore.behind v w e.restore.number e.restore.first.copying.spots e.restore.ids e.restore.got e.restore.met e.restore.sent one.running follows later;
     started = one.started;
+    fresh = one.fresh;
     empty = told_on (e.restore.first.sink.taken ≡ Some []) a b back one.empty;
     unreplied = one.unreplied;
   }
@@ -122,6 +123,7 @@ holds_replied v files e d same first others h =
     holds_on v v files files (le_refl v.told.faults) (λ some. some) (λ n. still v n) first e d others h refl refl (ap (λ (r : RunningView). r.number) same.restore) (record {
       running = subst (λ (r : RunningView). IsRunning v r) (sym same.restore) one.running;
       started = subst (λ (r : RunningView). IsStarted r) (sym same.restore) one.started;
+      fresh = ap (λ (r : RunningView). r.first.sink.faults) same.restore ∙ one.fresh;
       empty = subst (λ (r : RunningView). IfSome files (λ f. r.first.sink.taken ≡ Some [])) (sym same.restore) one.empty;
       unreplied = same.unreplied;
     })

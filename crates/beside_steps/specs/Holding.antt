@@ -29,10 +29,11 @@ past_of e =
       place = e.place;
     }
 
--- it runs over the keeper as it is now, with places that have these files
+-- it runs over the keeper as it is now, with places that have these files, and its sink was new
 pub record IsOne (now : View) (files : Option Files) (e : BesideView) : Type 0 where
   pub running : IsRunning now e.restore
   pub started : IsStarted e.restore
+  pub fresh : e.restore.first.sink.faults ≡ 0
   pub empty : IfSome files (λ f. e.restore.first.sink.taken ≡ Some [])
   pub unreplied : e.ended ≡ false → e.restore.replied ≡ []
 

@@ -59,8 +59,8 @@ pub fn run_plain<S: Shelf, P: Places, I: Source + Send, O: Sink + Send, R: Sink>
 }
 
 /// Runs the command that the words are, as `run_plain` does; the streams of backups pass through stages in threads of the
-/// scope, by the command's settings `queue` and `lanes`, and the restores of a script run in threads beside its later
-/// lines, so many at most as `workers` says. A stage whose thread is refused runs in this one. What differs is that the
+/// scope, by the command's settings `queue` and `lanes`; the bytes of a single restore are put together in a thread; and
+/// the restores of a script run in threads beside its later lines, so many at most as `workers` says. A stage whose thread is refused runs in this one. What differs is that the
 /// faults of a script's lines may be counted in another order than that of the lines.
 pub fn run<
     's,
@@ -69,7 +69,7 @@ pub fn run<
     S: Shelf,
     P: Places,
     I: Source + Drop + Send + 's,
-    O: Sink + Send,
+    O: Sink + Drop + Send + 's,
     R: Sink,
 >(
     rt: T,

@@ -13,12 +13,14 @@ use Rattle.keeper_core.specs.declared.pinning.Pinned.{Pinned}
 use Rattle.keeper_core.specs.Keeping.{IsStateWith, IsKnownStray}
 use Rattle.keeper_core.specs.Pins.{PinsVersion}
 use Rattle.serial_restore.specs.Going.{Stays, HasPinned}
+use Rattle.restore_assembler.specs.Copying.{Copying}
 use Rattle.restore_stage.specs.declared.Loaded.{Loaded}
 use Rattle.restore_stage.specs.declared.Loaded.TheVariants as loaded
 use Rattle.pin_laws.specs.Following.{Follows}
 use Rattle.pin_laws.proofs.Calls.{by_none, further}
 use Rattle.restore_turns.specs.Sent.{IsOwnPayload, IsLoadFault, IsSent, AreSent}
 use Rattle.restore_turns.specs.Entry.{IsStateBeside, IsEntry}
+use Rattle.restore_turns.specs.Started.{IsPlanned}
 
 abbrev pub alone : View → ℕ → ℕ → View
 alone u gets faults = record {
@@ -153,4 +155,17 @@ line_beside v x Before before now s n slots result becomes line = record {
   blobs = λ S other here. let h = becomes S other here in (line h.0).blobs S other h.1;
   written = λ S other here. let h = becomes S other here in (line h.0).written S other h.1;
   short = λ S other here. let h = becomes S other here in (line h.0).short S other h.1;
+}
+
+-- what was planned, as over such a shelf
+pub planned_alone : (v u : View) (s n slots number : ℕ) (ids : List ℕ) (bytes : ℕ) (c : Copying) → IsPlanned v u s n slots number ids bytes c → IsPlanned (fresh_of v) (fresh_of u) s n slots number ids bytes c
+planned_alone v u s n slots number ids bytes c p = record {
+  core = (p.core.0, alone_keeps v 0 v.told.faults p.core.0 p.core.1);
+  range = p.range;
+  kept = λ K keep. p.kept K (alone_back v 0 v.told.faults K keep);
+  pin = p.pin;
+  pinned = pin_alone s n v u p.pin p.pinned;
+  number_is = p.number_is;
+  bytes_are = p.bytes_are;
+  plan = p.plan;
 }

@@ -58,15 +58,15 @@ module _ {K : Type 0} (shelf : K → ShelfTold) (keeps : K → State → Option 
   left = new keeps p v u now number loads a h.last sent h.waiting r h.more t entry h.same h.line.same h.replied becomes
 
   -- its bytes are those that its sink has taken
-  pub ends_restore : IfSome old.places.files (λ files. a.sink.taken ≡ Some [])
+  pub ends_restore : a.sink.faults ≡ 0 → IfSome old.places.files (λ files. a.sink.taken ≡ Some [])
       → LeavesState shelf keeps known old.keeper end.keeper → (shelf end.keeper).gets ≡ (shelf old.keeper).gets
       → ChangesOnly old.places.files end.places.files p.name (IsWhatWasTaken sink.taken) → end.places.faults ≡ old.places.faults → end.places.read_faults ≡ old.places.read_faults → end.places.write_faults ≡ added old.places.write_faults sink.faults
       → EndsRestore shelf keeps known limits old (with_answer (restore_answer end.places.write_faults (result_of p.set p.version loads r)) p) end
-  ends_restore empty leaves gets changed place read write =
+  ends_restore fresh empty leaves gets changed place read write =
       let by = end.places.write_faults in
       let alone = alone_line keeps p v u now number loads a h.last sent h.waiting r h.more t entry h.same h.line.same h.replied becomes in
       let wrote : ChangesOnly old.places.files end.places.files p.name (IsWhatWasTaken h.last.sink.taken) = subst (λ (w : SinkTold). ChangesOnly old.places.files end.places.files p.name (IsWhatWasTaken w.taken)) (sym h.sink_is) changed in
-      let up = rises v.told left.told a.sink h.last.sink old.places end.places (result_of p.set p.version loads r) t.sink place read (write ∙ ap (λ (w : SinkTold). added old.places.write_faults w.faults) (sym h.sink_is)) alone.done alone.causes in
+      let up = rises v.told left.told a.sink h.last.sink old.places end.places (result_of p.set p.version loads r) fresh place read (write ∙ ap (λ (w : SinkTold). added old.places.write_faults w.faults) (sym h.sink_is)) alone.done alone.causes in
       record {
         leaves = leaves;
         gets = gets;

@@ -36,25 +36,12 @@ use Rattle.serial_restore.specs.Restoring.{whole_of, HasGone}
 use Rattle.serial_restore.proofs.Lines.{kept_line}
 use Rattle.restore_turns.specs.Sent.{AreSent, IsLoadFault}
 use Rattle.restore_turns.specs.Entry.{IsStateBeside, IsEntry}
-use Rattle.restore_turns.specs.Started.{HasStarted}
-use Rattle.restore_ends.specs.Results.{result_of}
-use Rattle.restore_ends.proofs.Alone.{alone, alone_keeps, alone_back, fresh_of, pin_alone, entry_alone, state_fresh, line_beside}
-use Rattle.restore_ends.proofs.Came.{stage_came, stage_wrote}
-use Rattle.restore_ends.proofs.Gone.{copied_beside, stopped_beside}
-use Rattle.restore_ends.proofs.Replies.{loads_ids, fault_sent, front_sent, copied_alone, stopped_alone, unwanted_alone}
-
--- how often the shelf had failed when the fault was met
-abbrev pub faults_at : ℕ → Option ℕ → ℕ
-faults_at before None = before
-faults_at before (Some m) = m
-
-faults_rise : (before : ℕ) (met : Option ℕ) → ((m : ℕ) → met ≡ Some m → Rose before m) → before ≤ faults_at before met
-faults_rise before None rose = omega arith
-faults_rise before (Some m) rose = let r = rose m refl in grind arith
-
-faults_are : (before : ℕ) (met : Option ℕ) → ((m : ℕ) → met ≡ Some m → Rose before m) → (m : ℕ) → met ≡ Some m → (faults_at before met ≡ m) × Rose before m
-faults_are before None rose m is = absurd (let e : ◌≡◌ {A = Option ℕ} None (Some m) = is in cc)
-faults_are before (Some k) rose m is = let e : k ≡ m = cc in (e, rose m is)
+use Rattle.restore_turns.specs.Started.{IsPlanned, HasStarted}
+use Rattle.restore_ends.specs.Results.{result_of, faults_at}
+use Rattle.restore_ends.proofs.Alone.{alone, alone_keeps, alone_back, fresh_of, entry_alone, planned_alone, state_fresh, line_beside}
+use Rattle.restore_ends.proofs.Came.{stage_came}
+use Rattle.restore_ends.proofs.Ran.{ran}
+use Rattle.restore_ends.proofs.Replies.{fault_sent, front_sent}
 
 -- a fault that was sent brings the number that was met, and no other
 sent_number : (u : View) (number : ℕ) (spots : List Spot) (met : Option ℕ) (writes : ℕ) (f : Fault) → IsLoadFault u number spots met f → (store_number (Refused (write_numbered writes f)) ≡ None) ⊎ (store_number (Refused (write_numbered writes f)) ≡ met)
@@ -76,62 +63,25 @@ module _ {K : Type 0} (keeps : K → State → Option Change → Type 0) (p : Pa
   came : HasCome a.sink a.copying.steps b (r ∷ more)
   came = stage_came a b same t.taken t.unsent r more replied
 
-  wrote : (known : ℕ → List ℕ) → AreOf known b.loads.taken → HasWritten known a.sink b (r ∷ more)
-  wrote = stage_wrote a b same t.taken t.unsent r more replied p.cache t.planned.plan.done t.planned.plan.served t.planned.plan.copied
+  planned : IsPlanned (fresh_of v) (fresh_of u) p.set p.version p.cache number ids a.bytes a.copying
+  planned = planned_alone v u p.set p.version p.cache number ids a.bytes a.copying t.planned
 
-  e : IsEntry (fresh_of u) now number a.copying.spots (load_ids a.copying.steps) p.got p.met sent
-  e = subst (λ (is : List ℕ). IsEntry (fresh_of u) now number a.copying.spots is p.got p.met sent) t.planned.plan.ids_are (entry_alone u number a.copying.spots now ids p.got p.met sent entry)
+  e : IsEntry (fresh_of u) now number a.copying.spots ids p.got p.met sent
+  e = entry_alone u number a.copying.spots now ids p.got p.met sent entry
 
   abbrev pub faults : ℕ
   faults = faults_at u.told.faults p.met
-
-  rise : u.told.faults ≤ faults
-  rise = faults_rise u.told.faults p.met entry.rose
-
-  met_is : (m : ℕ) → p.met ≡ Some m → (faults ≡ m) × Rose u.told.faults m
-  met_is = faults_are u.told.faults p.met entry.rose
 
   -- the keeper from before the pin, over gets that begin at none, and what the restore alone would have left of it
   abbrev pub old : View
   old = fresh_of v
 
-  abbrev pub w : View
-  w = alone (fresh_of u) (counted_up 0 p.got) faults
-
   abbrev pub new : View
   new = alone (fresh_of v) (counted_up 0 p.got) faults
 
-  copied_of : IsCopied (fresh_of u) w number a.sink b.sink a.copying.spots a.copying.whole p.cache (loads a.copying.steps) → IsCopied (fresh_of u) w t.planned.pin.no a.sink b.sink t.planned.pin.spots.items (option_map (whole_of p.set p.version) t.planned.pin.whole) p.cache (loads a.copying.steps)
-  copied_of h =
-      subst (λ (k : ℕ). IsCopied (fresh_of u) w k a.sink b.sink t.planned.pin.spots.items (option_map (whole_of p.set p.version) t.planned.pin.whole) p.cache (loads a.copying.steps)) (sym t.planned.number_is)
-      (subst (λ (o : Option Whole). IsCopied (fresh_of u) w number a.sink b.sink t.planned.pin.spots.items o p.cache (loads a.copying.steps)) t.planned.plan.whole_is
-      (subst (λ (qs : List Spot). IsCopied (fresh_of u) w number a.sink b.sink qs a.copying.whole p.cache (loads a.copying.steps)) t.planned.plan.spots_are h))
-
-  stopped_of : (f : Fault) → IsRestoreStopped (fresh_of u) w number a.sink b.sink a.copying.spots a.copying.whole (IsAtMostLeast (requests (map (λ q. q.id) a.copying.spots)) p.cache) f
-      → IsRestoreStopped (fresh_of u) w t.planned.pin.no a.sink b.sink t.planned.pin.spots.items (option_map (whole_of p.set p.version) t.planned.pin.whole) (IsAtMostLeast (requests (map (λ q. q.id) t.planned.pin.spots.items)) p.cache) f
-  stopped_of f h =
-      subst (λ (k : ℕ). IsRestoreStopped (fresh_of u) w k a.sink b.sink t.planned.pin.spots.items (option_map (whole_of p.set p.version) t.planned.pin.whole) (IsAtMostLeast (requests (map (λ q. q.id) t.planned.pin.spots.items)) p.cache) f) (sym t.planned.number_is)
-      (subst (λ (o : Option Whole). IsRestoreStopped (fresh_of u) w number a.sink b.sink t.planned.pin.spots.items o (IsAtMostLeast (requests (map (λ q. q.id) t.planned.pin.spots.items)) p.cache) f) t.planned.plan.whole_is
-      (subst (λ (qs : List Spot). IsRestoreStopped (fresh_of u) w number a.sink b.sink qs a.copying.whole (IsAtMostLeast (requests (map (λ q. q.id) qs)) p.cache) f) t.planned.plan.spots_are h))
-
   gone : HasGone old new a.sink b.sink p.set p.version p.cache (result_of p.set p.version ids r)
-  unfolding rise met_is e copied_of stopped_of
-  gone = at r came wrote
-    where
-      core : (K : Core) × Keeps old K
-      core = (t.planned.core.0, alone_keeps v 0 v.told.faults t.planned.core.0 t.planned.core.1)
-
-      at : (y : Reply) → HasCome a.sink a.copying.steps b (y ∷ more) → ((known : ℕ → List ℕ) → AreOf known b.loads.taken → HasWritten known a.sink b (y ∷ more)) → HasGone old new a.sink b.sink p.set p.version p.cache (result_of p.set p.version ids y)
-      at (reply.Written bytes) c h =
-          let long : length ids ≡ loads a.copying.steps = ap length t.planned.plan.ids_are ∙ loads_ids a.copying.steps in
-          subst (λ (l : ℕ). HasGone old new a.sink b.sink p.set p.version p.cache (Ok (Restored p.set p.version bytes l))) (sym long)
-          (subst (λ (l : ℕ). HasGone old new a.sink b.sink p.set p.version p.cache (Ok (Restored p.set p.version l (loads a.copying.steps)))) (sym (c.2 ∙ same.bytes ∙ t.planned.bytes_are))
-          (copied_beside (fresh_of v) (fresh_of u) a.sink b.sink p.set p.version p.cache core t.planned.range t.planned.pin (pin_alone p.set p.version v u t.planned.pin t.planned.pinned) p.got faults rise (loads a.copying.steps)
-          (copied_of (copied_alone (fresh_of u) number a.copying.spots a.copying.whole p.cache p.met a.copying.steps (loads a.copying.steps) t.planned.plan.least refl e.asked a.sink b same.spots same.whole same.later sent waiting line e.all p.got e.tried faults rise met_is t.planned.plan.served c.0 c.1 bytes more h))))
-      at (reply.Failed f) c h = stopped_beside (fresh_of v) (fresh_of u) a.sink b.sink p.set p.version p.cache core t.planned.range t.planned.pin (pin_alone p.set p.version v u t.planned.pin t.planned.pinned) p.got faults rise f
-          (stopped_of f (stopped_alone (fresh_of u) number a.copying.spots a.copying.whole p.cache p.met a.copying.steps (loads a.copying.steps) t.planned.plan.least refl e.asked a.sink b same.spots same.whole same.later sent waiting line e.all p.got e.tried faults rise met_is f more c h))
-      at reply.Unwanted c h = stopped_beside (fresh_of v) (fresh_of u) a.sink b.sink p.set p.version p.cache core t.planned.range t.planned.pin (pin_alone p.set p.version v u t.planned.pin t.planned.pinned) p.got faults rise fault.Memory
-          (stopped_of fault.Memory (unwanted_alone (fresh_of u) number a.copying.spots a.copying.whole p.cache p.met a.copying.steps (loads a.copying.steps) t.planned.plan.least refl e.asked a.sink b same.spots same.whole same.later sent waiting line e.all p.got e.tried faults rise met_is more h))
+  unfolding planned e
+  gone = ran (fresh_of v) (fresh_of u) now p.set p.version p.cache number ids a b p.got p.met sent waiting r more planned t.taken t.unsent e same line replied
 
   -- the line of the restore alone, in each state that was kept before the pin
   pub alone_line : RestoresLine (keeps p.from) (IsStateBeside new) (IsKnownStray old) (IsKnownStray new) p.set p.version p.cache old.told new.told a.sink b.sink (result_of p.set p.version ids r)

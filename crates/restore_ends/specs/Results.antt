@@ -1,5 +1,5 @@
 -- What a restore that ran has come to, and its result.
-use Rattle.std.specs.Prelude.{◌≡◌, ℕ, List, ◌∷◌, length, Result, Ok, Err}
+use Rattle.std.specs.Prelude.{◌≡◌, ℕ, List, ◌∷◌, length, Option, None, Some, Result, Ok, Err}
 use Rattle.vault_types.specs.declared.Answer.{Answer}
 use Rattle.vault_types.specs.declared.Answer.TheVariants.{Restored}
 use Rattle.vault_types.specs.declared.Fault.{Fault}
@@ -27,3 +27,8 @@ pub record HasReplied (first : Assembling) (sent : List Loaded) (r : Reply) (sin
   pub more : List Reply
   pub replied : reply_of last ≡ r ∷ more
   pub sink_is : last.sink ≡ sink
+
+-- how often the shelf had failed when a restore met a fault of it, or before it if it met none
+abbrev pub faults_at : ℕ → Option ℕ → ℕ
+faults_at before None = before
+faults_at before (Some m) = m

@@ -34,7 +34,7 @@ pub fn a_restore_that_replied_ends<K: PinnedKeeper>()
         → HasStarted v u p.set p.version p.cache number loads a
         → IsEntry u now number a.copying.spots loads p.got p.met sent → HasReplied a sent r sink
         → ((S : State) (other : Option Change) → K.keeps p.from S other → IsStateBeside v S other)
-        → IfSome old.places.files (λ files. a.sink.taken ≡ Some [])
+        → a.sink.faults ≡ 0 → IfSome old.places.files (λ files. a.sink.taken ≡ Some [])
         → LeavesState K.shelf K.keeps K.strays old.keeper new.keeper
         → (K.shelf new.keeper).gets ≡ (K.shelf old.keeper).gets
         → ChangesOnly old.places.files new.places.files p.name (IsWhatWasTaken sink.taken)

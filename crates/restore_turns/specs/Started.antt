@@ -40,9 +40,8 @@ pub record IsPlanned (v u : View) (s n slots number : ℕ) (ids : List ℕ) (byt
   pub bytes_are : bytes ≡ pin.length
   pub plan : IsPlanOf pin.spots.items (option_map (whole_of s n) pin.whole) slots ids c
 
--- so, and its first stage has taken and sent nothing, over a sink that has not failed
+-- so, and its first stage has taken and sent nothing
 pub record HasStarted (v u : View) (s n slots number : ℕ) (ids : List ℕ) (a : Assembling) : Type 0 where
   pub planned : IsPlanned v u s n slots number ids a.bytes a.copying
   pub taken : a.loads.taken ≡ []
   pub unsent : reply_of a ≡ []
-  pub sink : a.sink.faults ≡ 0

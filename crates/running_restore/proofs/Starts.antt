@@ -13,12 +13,11 @@ use Rattle.restore_turns.proofs.Pinned.{planned_entry}
 
 module _ (v u : View) (s n slots number : ℕ) (ids : List ℕ) (bytes : ℕ) (c : Copying) (p : IsPlanned v u s n slots number ids bytes c) (sink : SinkTold) (loads : Receiver Loaded) (reply : Sender Reply)
     (first : Assembling) (is : first ≡ record { copying = c; sink = sink; bytes = bytes; loads = loads; reply = reply; ready = [] }) where
-  pub has_started : loads.taken ≡ [] → reply.sent ≡ [] → sink.faults ≡ 0 → HasStarted v u s n slots number ids first
-  has_started taken sent fresh = subst (λ (a : Assembling). HasStarted v u s n slots number ids a) (sym is) (record {
+  pub has_started : loads.taken ≡ [] → reply.sent ≡ [] → HasStarted v u s n slots number ids first
+  has_started taken sent = subst (λ (a : Assembling). HasStarted v u s n slots number ids a) (sym is) (record {
     planned = p;
     taken = taken;
     unsent = ap (λ (rs : List Reply). rs ++ []) sent;
-    sink = fresh;
   })
 
   pub starts_entry : (sent : List Loaded) → sent ≡ [] → IsEntry u u number first.copying.spots ids 0 None sent

@@ -73,10 +73,8 @@ impl<S: Shelf, O: Sink + Drop> Model for ReadyRestore<S, O> {
 }
 
 impl<S: Shelf, O: Sink + Drop> PlannedRestore<S, O> {
-    /// Makes its stage, over a sink that has not failed, with the room for the stage's thread. No
-    /// memory.
+    /// Makes its stage, over a sink, with the room for the stage's thread. No memory.
     pub fn ready(self, sink: O) -> (ReadyRestore<S, O>, Assembler<O>, StageRoom<Assembler<O>>)
-        requires { (O.told sink).faults ≡ 0 }
         ensures starts { Starts self (O.told sink) result.0 }
         ensures stage { result.1 ≡ result.0.first }
     {

@@ -10,6 +10,7 @@ ghost use Rattle.command_runner.specs.Completes.{IsCompleteRun};
 use crate::backing::run_backup;
 use crate::beside::run_beside;
 use crate::filling::run_fill;
+use crate::restoring::run_restore;
 use command_runner::{Ended, ended_early, ended_lines, run_command};
 use keeper_store::KeeperStore;
 use pipe_backup::Course;
@@ -100,7 +101,7 @@ fn run_words<
     S: Shelf,
     P: Places,
     I: Source + Drop + Send + 's,
-    O: Sink,
+    O: Sink + Drop + Send + 's,
     R: Sink,
 >(
     rt: T,
@@ -151,6 +152,17 @@ where
             ),
             Some(_) => ended_early(alloc, Fault::Usage, shelf, input, out, report),
         },
+        Command::Restore {
+            set,
+            version,
+            cache,
+            area,
+        } => match area {
+            None => run_restore(
+                rt, alloc, scope, set, version, cache, shelf, input, out, report,
+            ),
+            Some(_) => ended_early(alloc, Fault::Usage, shelf, input, out, report),
+        },
         Command::Batch {
             queue,
             lanes,
@@ -193,9 +205,10 @@ where
     }
 }
 
-/// Runs the command that the words are; the streams of backups pass through stages in threads of the scope, and restores of a
-/// script run in threads beside its later lines; a stage whose thread is refused runs in this one. What ends the run before its first line is told on `report`: `Usage` where the words are
-/// no command, or one that is not built yet; the faults of reading a script; and those of opening the shelf. A line that is
+/// Runs the command that the words are; the streams of backups pass through stages in threads of the scope, the bytes of a
+/// restore are put together in one, and restores of a script run in threads beside its later lines; a stage whose thread is
+/// refused runs in this one. What ends the run before its first line is told on `report`: `Usage` where the words are no
+/// command, or one that is not built yet; the faults of reading a script; and those of opening the shelf. A line that is
 /// refused has its fault as its answer. The report is on `out`, and on `report` where `out` gets a version; one that could
 /// not be written is a `WriteFault`, and what was done stands.
 pub fn run_threaded<
@@ -205,7 +218,7 @@ pub fn run_threaded<
     S: Shelf,
     P: Places,
     I: Source + Drop + Send + 's,
-    O: Sink,
+    O: Sink + Drop + Send + 's,
     R: Sink,
 >(
     rt: T,

@@ -3,7 +3,7 @@ use Rattle.std.proofs.Common.{◌∙◌, ap, ℕ, map, Option, Some, None, arith
 use Rattle.vault_types.specs.declared.Command.{Command}
 use Rattle.vault_types.specs.declared.Command.TheVariants as command
 use Rattle.store_model.specs.World.{World, world}
-use Rattle.store_model.specs.Courses.{RunsBackup}
+use Rattle.store_model.specs.Courses.{RunsBackup, RunsRestore}
 use Rattle.store_model.specs.Filling.{RunsFill}
 use Rattle.word_ranges.proofs.Commands.{of_words}
 use Rattle.command_runner.proofs.Runs.{batch, one_line}
@@ -24,6 +24,16 @@ pub run_backup-requires-clause-lanes : goal.run_backup-requires-clause-lanes
 run_backup-requires-clause-lanes g c κs within =
     let x = c.in-Backup in
     (omega (arith, c.course_of.ensures.lanes, (of_words (map string_bytes c.args.words.now) (command.Backup x.set x.config x.queue x.lanes x.sample) (c.in-Ok.ensures.ok ∙ ap (λ (d : Command). Some d) x.is)).1.lanes.low), omega (arith, c.course_of.ensures.lanes, (of_words (map string_bytes c.args.words.now) (command.Backup x.set x.config x.queue x.lanes x.sample) (c.in-Ok.ensures.ok ∙ ap (λ (d : Command). Some d) x.is)).1.lanes.high))
+
+pub run_restore-requires-clause-some : goal.run_restore-requires-clause-some
+run_restore-requires-clause-some g c κs within =
+    let x = c.in-Restore in
+    (of_words (map string_bytes c.args.words.now) (command.Restore x.set x.version x.cache x.area) (c.in-Ok.ensures.ok ∙ ap (λ (d : Command). Some d) x.is)).0
+
+pub run_restore-requires-clause-few : goal.run_restore-requires-clause-few
+run_restore-requires-clause-few g c κs within =
+    let x = c.in-Restore in
+    (of_words (map string_bytes c.args.words.now) (command.Restore x.set x.version x.cache x.area) (c.in-Ok.ensures.ok ∙ ap (λ (d : Command). Some d) x.is)).1
 
 pub run_batch-requires-clause-queue : goal.run_batch-requires-clause-queue
 run_batch-requires-clause-queue g c κs within =
@@ -73,6 +83,15 @@ returns-in-None g c =
     let now : World = world (g.S.Shelf.told r.shelf) (g.P.Places.told c.args.places.now) (g.I.Source.told r.input) (g.O.Sink.told r.out) (g.R.Sink.told c.run_backup.new.report) in
     one_line false (map string_bytes c.args.words.now) c.args.limits.now before now r.answers.items (command.Backup x.set x.config x.queue x.lanes None) r.fault r.status (RunsBackup x.set x.config c.args.limits.now)
     (c.in-Ok.ensures.ok ∙ ap (λ (d : Command). Some d) x.is ∙ ap (λ (o : Option (ℕ × ℕ)). Some (command.Backup x.set x.config x.queue x.lanes o)) c.in-None.is) tt (λ ran. ran) (c.run_backup.ensures (g.P.Places.told c.args.places.now))
+
+pub returns-in-None-area : goal.returns-in-None-area
+returns-in-None-area g c =
+    let x = c.in-Restore in
+    let before : World = world (g.S.Shelf.told c.args.shelf) (g.P.Places.told c.args.places.now) (g.I.Source.told c.args.input) (g.O.Sink.told c.args.out) (g.R.Sink.told c.args.report.now) in
+    let r = c.run_restore.result in
+    let now : World = world (g.S.Shelf.told r.shelf) (g.P.Places.told c.args.places.now) (g.I.Source.told r.input) (g.O.Sink.told r.out) (g.R.Sink.told c.run_restore.new.report) in
+    one_line false (map string_bytes c.args.words.now) c.args.limits.now before now r.answers.items (command.Restore x.set x.version x.cache None) r.fault r.status (RunsRestore x.set x.version x.cache c.args.limits.now)
+    (c.in-Ok.ensures.ok ∙ ap (λ (d : Command). Some d) x.is ∙ ap (λ (o : Option ℕ). Some (command.Restore x.set x.version x.cache o)) c.in-None-area.is) tt (λ ran. ran) (c.run_restore.ensures c.args.limits.now (g.P.Places.told c.args.places.now))
 
 pub returns-in-Batch : goal.returns-in-Batch
 returns-in-Batch g c =

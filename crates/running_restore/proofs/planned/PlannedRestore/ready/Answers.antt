@@ -22,6 +22,6 @@ returns-clause-starts g c =
       sent = append-nil p.lines.to.sent ∙ new.loads_unused.0;
       number = ap (λ (q : PlannedView). q.number) c.self.view_is;
       replied = new.reply_unused.1;
-      started = has_started p.before.value p.behind.value p.set p.version p.slots p.no p.ids.items p.bytes p.copier c.self.invariant.0 (g.O.Sink.told c.args.sink) p.lines.from p.lines.back c.of-first.result.value is new.loads_unused.1 new.reply_unused.0 c.requires;
+      started = has_started p.before.value p.behind.value p.set p.version p.slots p.no p.ids.items p.bytes p.copier c.self.invariant.0 (g.O.Sink.told c.args.sink) p.lines.from p.lines.back c.of-first.result.value is new.loads_unused.1 new.reply_unused.0;
       running = starts_entry p.before.value p.behind.value p.set p.version p.slots p.no p.ids.items p.bytes p.copier c.self.invariant.0 (g.O.Sink.told c.args.sink) p.lines.from p.lines.back c.of-first.result.value is _ (append-nil p.lines.to.sent ∙ new.loads_unused.0);
     }

@@ -1,13 +1,16 @@
 """What the long checks share: programs, streams from the seed, counts, and the calls of a program on a store."""
 
 import hashlib
+import json
 import os
 import random
 import re
 import shutil
 import subprocess
+import sys
 import tempfile
 import time
+import traceback
 from collections import Counter, namedtuple
 
 import blobs
@@ -22,11 +25,12 @@ class Skipped(Exception):
 class Case:
     """A check that runs: its room, its seed, and what it has come to."""
 
-    def __init__(self, name, programs, seed):
+    def __init__(self, name, programs, seed, part=""):
         self.name = name
         self.programs = programs
         self.seed = seed
-        self.random = random.Random(f"{seed} {name}")
+        self.inputs = f"{seed} {name} {part}".rstrip()
+        self.random = random.Random(self.inputs)
         self.streams = 0
         self.passed = 0
         self.failed = 0
@@ -57,7 +61,55 @@ class Case:
     def stream(self, count):
         """The next bytes that the seed makes."""
         self.streams += 1
-        return hashlib.shake_128(f"{self.seed} {self.name} {self.streams}".encode()).digest(count)
+        return hashlib.shake_128(f"{self.inputs} {self.streams}".encode()).digest(count)
+
+    def each(self, parts):
+        """Runs parts of this check, each a name and a function of a case, in processes of their own, JOBS at a time. The
+        inputs of a part come from the seed and its name. What the functions return, in order, as JSON has it."""
+        jobs = int(os.environ.get("JOBS", 2 * (os.cpu_count() or 1)))
+        waiting, running, found = list(enumerate(parts)), {}, [None] * len(parts)
+        while waiting or running:
+            while waiting and len(running) < jobs:
+                at, (name, function) = waiting.pop(0)
+                running[self.begun(at, name, function)] = at
+            pid, _ = os.wait()
+            if pid not in running:
+                continue
+            at = running.pop(pid)
+            path = os.path.join(self.room, f"part{at}")
+            try:
+                with open(path, encoding="utf-8") as file:
+                    passed, failed, found[at] = json.load(file)
+            except (OSError, ValueError):
+                passed, failed = 0, 1
+                print(f"FAILED: {self.name}: {parts[at][0]}: cut off", flush=True)
+            self.passed += passed
+            self.failed += failed
+        return found
+
+    def begun(self, at, name, function):
+        """The process in which a part runs."""
+        sys.stdout.flush()
+        pid = os.fork()
+        if pid:
+            return pid
+        status = 1
+        try:
+            room = os.path.join(self.room, f"room{at}")
+            os.mkdir(room)
+            part = Case(self.name, self.programs, self.seed, name)
+            part.close()
+            part.room = room
+            returned = function(part)
+            with open(os.path.join(self.room, f"part{at}"), "w", encoding="utf-8") as file:
+                json.dump([part.passed, part.failed, returned], file)
+            part.close()
+            status = 0
+        except BaseException:
+            traceback.print_exc()
+        finally:
+            sys.stdout.flush()
+            os._exit(status)
 
     def folder(self, name):
         """A new and empty folder of the room."""

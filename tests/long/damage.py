@@ -85,14 +85,18 @@ def restored(case, what, program, folder, kept, files):
     return refused
 
 
-def damage_by(case, program):
+SHARES = 4
+
+
+def damage_by(case, program, share):
+    """Every so many-th damaged form. How many blobs and bytes there are; forms, restores and refusals."""
     files, kept = small_store(case, program)
     folder = case.folder("damaged")
     store = os.path.join(folder, "store")
     blobs.write_files(files, store)
     case.same("refused versions of the store that is whole", restored(case, "whole", program, folder, kept, files), 0)
     forms = refusals = 0
-    for name, change, data in changes(case, files):
+    for name, change, data in list(changes(case, files))[share::SHARES]:
         written(store, name, data)
         now = {**files, name: data}
         if data is None:
@@ -102,8 +106,7 @@ def damage_by(case, program):
         written(store, name, files[name])
     size = sum(map(len, files.values()))
     case.same("the store behind it", blobs.files_of(store), files)
-    case.say(f"{program.rsplit('/', 1)[1]}: {len(files)} blobs of {size} bytes, {forms} damaged stores, {forms * len(kept)} restores, "
-             f"{refusals} refused by name, {forms * len(kept) - refusals} exact")
+    return len(files), size, forms, forms * len(kept), refusals
 
 
 def beside(case, program):
@@ -128,6 +131,13 @@ def beside(case, program):
 
 
 def check(case):
+    parts = [(os.path.basename(program), program, share) for program in case.programs for share in range(SHARES)]
+    found = case.each([(name, lambda part, program=program, share=share: damage_by(part, program, share))
+                       for name, program, share in parts])
+    for at in range(0, len(parts), SHARES):
+        shares = [one for one in found[at:at + SHARES] if one]
+        forms, restores, refusals = (sum(one[i] for one in shares) for i in range(2, 5))
+        case.say(f"{parts[at][0]}: {shares[0][0]} blobs of {shares[0][1]} bytes, {forms} damaged stores, {restores} restores, "
+                 f"{refusals} refused by name, {restores - refusals} exact")
     for program in case.programs:
-        damage_by(case, program)
         beside(case, program)

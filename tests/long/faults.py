@@ -4,9 +4,11 @@ is lost, the store stands as before or behind each line that was refused, and th
 that lie, which say that they did more than they did: behind these a version may be refused by name as damaged, and never
 comes back with other bytes."""
 
+import os
+
 import common
 import traced
-from scenarios import FAILED, Maker, Work, after, lines_of, possible, status_of
+from scenarios import FAILED, KINDS, Maker, Work, after, lines_of, possible, status_of
 
 ERRORS = ["EIO", "ENOSPC", "EINTR"]
 NUMBERS = {"read": traced.READ, "write": traced.WRITE}
@@ -78,40 +80,51 @@ def lied_to(work, what, ended, writes):
         case.same(f"{what}: lost versions", lost, [])
 
 
-def faults_of(case, program, scenario):
+SHARES = 4
+
+
+def faults_of(case, program, kind, share):
+    """Every so many-th call of a scenario fails, in each way. How many calls there are; failures, runs that went through,
+    short calls and lies."""
+    scenario = getattr(Maker(case, program, 0.4), kind)()
     work = Work(case, program, scenario)
     work.lay()
     calls = common.calls_on(work.store, work.words(), work.folder, scenario.given)
     tried = through = short = lies = 0
-    for call, count in sorted(calls.counts.items()):
-        kinds = [f"error={error}" for error in ERRORS] + (["retval=0"] if call == "write" else [])
-        for at in range(1, count + 1):
-            for kind in kinds:
-                what = f"{scenario.name} where {call} {at} has {kind}"
-                ended = work.run(common.at_call(calls, call, at, kind))
-                through += look(work, what, ended)
-                tried += 1
-            if call in NUMBERS:
-                what = f"{scenario.name} where {call} {at} does half"
-                work.lay()
-                ended, _ = traced.run(work.words(), work.folder, scenario.given, work.store, {NUMBERS[call]}, at, traced.half)
-                case.holds(f"{what}: goes through", look(work, what, ended), ended)
-                short += 1
-                for value in (1, 20):
-                    what = f"{scenario.name} where {call} {at} says {value} and does nothing"
-                    ended = work.run(common.at_call(calls, call, at, f"retval={value}"))
-                    lied_to(work, what, ended, call == "write")
-                    lies += 1
-    case.say(f"{program.rsplit('/', 1)[1]}, {scenario.name}: {sum(calls.counts.values())} calls on the store, {tried} failures, "
-             f"of which {through} runs went through; {short} short calls; {lies} lies")
-    return tried + short + lies
+    every = [(call, at) for call, count in sorted(calls.counts.items()) for at in range(1, count + 1)]
+    for call, at in every[share::SHARES]:
+        for way in [f"error={error}" for error in ERRORS] + (["retval=0"] if call == "write" else []):
+            what = f"{scenario.name} where {call} {at} has {way}"
+            ended = work.run(common.at_call(calls, call, at, way))
+            through += look(work, what, ended)
+            tried += 1
+        if call in NUMBERS:
+            what = f"{scenario.name} where {call} {at} does half"
+            work.lay()
+            ended, _ = traced.run(work.words(), work.folder, scenario.given, work.store, {NUMBERS[call]}, at, traced.half)
+            case.holds(f"{what}: goes through", look(work, what, ended), ended)
+            short += 1
+            for value in (1, 20):
+                what = f"{scenario.name} where {call} {at} says {value} and does nothing"
+                ended = work.run(common.at_call(calls, call, at, f"retval={value}"))
+                lied_to(work, what, ended, call == "write")
+                lies += 1
+    return scenario.name, len(every), tried, through, short, lies
 
 
 def check(case):
     common.needs_strace()
     traced.needed()
+    parts = [(f"{os.path.basename(program)} {kind}", program, kind, share)
+             for program in case.programs for kind in KINDS for share in range(SHARES)]
+    found = case.each([
+        (name, lambda part, program=program, kind=kind, share=share: faults_of(part, program, kind, share))
+        for name, program, kind, share in parts])
     runs = 0
-    for program in case.programs:
-        for scenario in Maker(case, program, 0.4).all():
-            runs += faults_of(case, program, scenario)
+    for at in range(0, len(parts), SHARES):
+        shares = [one for one in found[at:at + SHARES] if one]
+        tried, through, short, lies = (sum(one[i] for one in shares) for i in range(2, 6))
+        runs += tried + short + lies
+        case.say(f"{parts[at][0].split()[0]}, {shares[0][0]}: {shares[0][1]} calls on the store, {tried} failures, "
+                 f"of which {through} runs went through; {short} short calls; {lies} lies")
     case.say(f"{runs} runs in which a call failed, was short or lied")

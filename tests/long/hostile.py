@@ -458,19 +458,18 @@ def told_apart(files, now):
     return {name: now.get(name, b"").hex()[:400] for name in set(files) | set(now) if files.get(name) != now.get(name)}
 
 
-def check(case):
-    minutes = float(os.environ.get("MINUTES", "10"))
-    if os.access("/dev/shm", os.W_OK):
-        common.shutil.rmtree(case.room)
-        case.room = common.tempfile.mkdtemp(prefix="hard_", dir="/dev/shm")
+WORKERS = 8
+
+
+def answers(case, worker, end):
+    """Hostile input until the end. How much of each kind there was."""
     counts = {"words": 0, "scripts": 0, "blobs": 0}
     files = small_store(case, case.programs[0])
     forging = case.folder("forged")
-    end = time.monotonic() + 60 * minutes
     turn = 0
     store = None
     while time.monotonic() < end and case.failed < 50:
-        program = case.programs[turn // 60 % len(case.programs)]
+        program = case.programs[(turn // 60 + worker) % len(case.programs)]
         if turn % 60 == 0:
             store = Store(case, program)
         for _ in range(10):
@@ -479,5 +478,16 @@ def check(case):
             hostile_blobs(case, program, forging, files, case.random)
             counts["blobs"] += 1
         turn += 1
+    return counts
+
+
+def check(case):
+    minutes = float(os.environ.get("MINUTES", "10"))
+    if os.access("/dev/shm", os.W_OK):
+        common.shutil.rmtree(case.room)
+        case.room = common.tempfile.mkdtemp(prefix="hard_", dir="/dev/shm")
+    end = time.monotonic() + 60 * minutes
+    found = [one for one in case.each([(f"worker {i}", lambda part, i=i: answers(part, i, end)) for i in range(WORKERS)]) if one]
+    counts = {kind: sum(one[kind] for one in found) for kind in ("words", "scripts", "blobs")}
     case.say(", ".join(f"{count} hostile {kind}" for kind, count in counts.items()) + f" in {case.seconds():.0f} s, "
              f"{case.failed} answers that are not the model's")

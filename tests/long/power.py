@@ -1,7 +1,8 @@
 """Power is lost on a real file system: ext4 and XFS on a loop device, shut down without a flush at some moment of backups,
 deletions and scripts, unmounted, mounted again and opened. Half of the moments are times, drawn by the seed; the others
 are calls of the program on the store, in front of which it is stopped. Each version that was acknowledged restores, and
-each line that was not is done whole or not at all. One store lives through all moments of its file system.
+each line that was not is done whole or not at all. One store lives through all moments of its disk, of which there are
+two of each file system.
 
 MOMENTS=N tries N moments, and not 500. What the host's page cache holds of the image counts as the disk: a disk's own cache
 of writes is not part of this."""
@@ -209,28 +210,43 @@ class Life:
         return found in states
 
 
+DISKS = 2
+
+
+def lives(case, kind, at, moments):
+    """A store through so many moments of one disk. The numbers that are told, or why it was skipped."""
+    try:
+        disk = Disk(case, kind)
+    except common.Skipped as why:
+        return str(why)
+    life = Life(case, case.programs[0], disk)
+    tried = 0
+    try:
+        for number in range(moments):
+            life.program = case.programs[number // 2 % len(case.programs)]
+            tried += 1
+            if not life.moment(number):
+                break
+    finally:
+        disk.close()
+    case.holds(f"{kind}, disk {at}: files that were not synced were lost", disk.lost > 0, disk.lost)
+    return tried, life.cut, life.acknowledged, life.through, life.undone, disk.unsynced, disk.lost
+
+
 def check(case):
     traced.needed()
     private_mounts()
     moments = int(os.environ.get("MOMENTS", "500"))
-    for i, kind in enumerate(("ext4", "xfs")):
-        share = (moments + i) // 2
-        try:
-            disk = Disk(case, kind)
-        except common.Skipped as why:
+    parts = [(kind, at) for kind in MAKE for at in range(DISKS)]
+    found = case.each([
+        (f"{kind} {at}", lambda part, kind=kind, at=at, i=i: lives(part, kind, at, (moments + i) // len(parts)))
+        for i, (kind, at) in enumerate(parts)])
+    for i, kind in enumerate(MAKE):
+        shares = [one for one in found[i * DISKS:(i + 1) * DISKS] if isinstance(one, list)]
+        for why in {one for one in found[i * DISKS:(i + 1) * DISKS] if isinstance(one, str)}:
             print(f"skipped: {case.name}: {kind}: {why}", flush=True)
-            continue
-        life = Life(case, case.programs[0], disk)
-        tried = 0
-        try:
-            for number in range(share):
-                life.program = case.programs[number // 2 % len(case.programs)]
-                tried += 1
-                if not life.moment(number):
-                    break
-        finally:
-            disk.close()
-        case.say(f"{kind}: {tried} moments, {life.cut} in the middle of a run, {life.acknowledged} lines acknowledged; of the "
-                 f"runs cut off {life.through} were done and {life.undone} were not; of {disk.unsynced} files that were not "
-                 f"synced {disk.lost} were gone")
-        case.holds(f"{kind}: files that were not synced were lost", disk.lost > 0, disk.lost)
+        if shares:
+            tried, cut, acknowledged, through, undone, unsynced, lost = (sum(one[i] for one in shares) for i in range(7))
+            case.say(f"{kind}, {len(shares)} disks: {tried} moments, {cut} in the middle of a run, {acknowledged} lines "
+                     f"acknowledged; of the runs cut off {through} were done and {undone} were not; of {unsynced} files that "
+                     f"were not synced {lost} were gone")

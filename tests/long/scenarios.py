@@ -8,6 +8,8 @@ import common
 
 FAILED = "error 6: store failed"
 
+KINDS = ["first_backup", "backup", "deletion", "migrate", "batch"]
+
 Line = namedtuple("Line", "command set number name")
 Scenario = namedtuple("Scenario", "name before words given files lines states texts clean outputs")
 
@@ -162,9 +164,6 @@ class Maker:
         ]
         given = "".join(text_of(line) for line in lines).encode()
         return self.scenario("a batch", before, kept, ["batch"], given, files, lines)
-
-    def all(self):
-        return [self.first_backup(), self.backup(), self.deletion(), self.migrate(), self.batch()]
 
 
 class Work:

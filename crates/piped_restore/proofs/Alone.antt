@@ -1,7 +1,7 @@
 -- A restore that runs alone: it starts, it is given payloads, and its reply is taken.
 use Rattle.std.proofs.Common.{◌≡◌, ⊎_elim, ℕ, ◌≤◌, List, [], ◌∷◌, ◌++◌, ◌+◌, Option, None, Some, refl, sym, ap, subst, ◌∙◌, arith}
 use Rattle.std.proofs.Math.Nat.{le_refl}
-use Rattle.vault_traits.specs.Counts.{counted_up, Rose}
+use Rattle.vault_traits.specs.Counts.{counted_up, Rose, RiseFrom}
 use Rattle.vault_traits.specs.Told.{SinkTold}
 use Rattle.script_laws.proofs.Rising.{counted_up_twice}
 use Rattle.keeper_catalog.specs.View.{View}
@@ -25,11 +25,14 @@ starts_alone v u s n slots p sink r b st = subst (λ (w : View). RunsAlone w r) 
   met = subst (λ (o : Option ℕ). faults_at r.behind.told.faults o ≤ r.behind.told.faults) (sym st.met) (le_refl r.behind.told.faults);
 })
 
+risen : (v w m : ℕ) → RiseFrom v (m ∷ []) w → m ≤ w
+risen v w m rise = rise.1
+
 -- where it met a fault, the shelf has failed as often
 still_met : (before v w : ℕ) (was met : Option ℕ) → before ≤ v → MeetsFirst v was met w → faults_at before was ≤ v → faults_at before met ≤ w
 still_met before v w was met low meets old = ⊎_elim
     (λ same. subst (λ (o : Option ℕ). faults_at before o ≤ w) (sym same.0) (let rise = same.1 in omega (arith, rise, old)))
-    (λ first. subst (λ (o : Option ℕ). faults_at before o ≤ w) (sym first.1.1.0) first.1.1.1.1)
+    (λ first. subst (λ (o : Option ℕ). faults_at before o ≤ w) (sym first.1.1) (risen v w first.1.0 first.1.2))
     meets
 
 -- some loads more were tried

@@ -31,8 +31,8 @@ use Rattle.running_restore.specs.Views.{PlannedView, RunningView, Starts}
 use Rattle.piped_restore.specs.Running.{RunsAlone}
 
 -- what was copied or stopped, with the counts of the keeper now
-copied_now : (u w now : View) (no : ℕ) (before behind : SinkTold) (spots : List Spot) (whole : Option Whole) (slots n : ℕ) → Stays u now → now.told.gets ≡ w.told.gets → IsCopied u w no before behind spots whole slots n → IsCopied u now no before behind spots whole slots n
-copied_now u w now no before behind spots whole slots n stays gets h = record {
+copied_now : (u w now : View) (number : ℕ) (before behind : SinkTold) (spots : List Spot) (whole : Option Whole) (slots n : ℕ) → Stays u now → now.told.gets ≡ w.told.gets → IsCopied u w number before behind spots whole slots n → IsCopied u now number before behind spots whole slots n
+copied_now u w now number before behind spots whole slots n stays gets h = record {
   stays = stays;
   later = h.later;
   least = h.least;
@@ -42,9 +42,9 @@ copied_now u w now no before behind spots whole slots n stays gets h = record {
   sum = h.sum;
 }
 
-stopped_now : (u w now : View) (no : ℕ) (before behind : SinkTold) (spots : List Spot) (whole : Option Whole) (IsFew : ℕ → Type 0) (f : Fault) → Stays u now → now.told.gets ≡ w.told.gets → IsRestoreStopped u w no before behind spots whole IsFew f
-    → IsRestoreStopped u now no before behind spots whole IsFew fault.Memory
-stopped_now u w now no before behind spots whole IsFew f stays gets h = record {
+stopped_now : (u w now : View) (number : ℕ) (before behind : SinkTold) (spots : List Spot) (whole : Option Whole) (IsFew : ℕ → Type 0) (f : Fault) → Stays u now → now.told.gets ≡ w.told.gets → IsRestoreStopped u w number before behind spots whole IsFew f
+    → IsRestoreStopped u now number before behind spots whole IsFew fault.Memory
+stopped_now u w now number before behind spots whole IsFew f stays gets h = record {
   stays = stays;
   later = h.later;
   loads = h.loads;

@@ -1,0 +1,4 @@
+pub mod Ascending
+pub mod Staying
+pub mod Readings
+pub mod Steps

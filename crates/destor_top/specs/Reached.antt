@@ -17,7 +17,7 @@ use Rattle.scrub_model.specs.Scrubbing.{RunsScrub}
 use Rattle.command_runner.specs.Unbuilt.{IsUnbuilt}
 use Rattle.command_runner.specs.Completes.{IsBuilt}
 
--- `scrub`, beside the commands of `Runs`; a backup with the sampled index and a restore by areas are not built
+-- beside the commands of `Runs`: a scrub. A backup with the sampled index and a restore by areas are not built
 abbrev pub Reached : Command → Course
 Reached (command.Scrub workers) limits before now answers f = RunsOpened RunsScrub before now answers f
 Reached other limits before now answers f = IsUnbuilt before now answers f

@@ -9,7 +9,7 @@ ghost use Rattle.store_model.specs.World.{world};
 ghost use Rattle.destor_top.specs.Reached.{Reached, IsCompleteRun};
 
 pub use command_runner::Ended;
-use command_runner::{ended_early, run_command};
+use command_runner::{ended_early, run_words};
 use keeper_store::KeeperStore;
 use script_words::read_words;
 use scrub_runner::{run_scrub, run_scrub_plain};
@@ -57,8 +57,8 @@ pub fn run_plain<S: Shelf, P: Places, I: Source + Send, O: Sink + Send, R: Sink>
     match read_words(alloc, words) {
         Err(fault) => ended_early(alloc, fault, shelf, input, out, report),
         Ok(Command::Scrub { .. }) => run_scrub_plain(alloc, shelf, input, out, report),
-        Ok(command) => run_command::<S, KeeperStore<S>, P, I, O, R>(
-            alloc, command, limits, shelf, places, input, out, report,
+        Ok(_) => run_words::<S, KeeperStore<S>, P, I, O, R>(
+            alloc, words, limits, shelf, places, input, out, report,
         ),
     }
 }

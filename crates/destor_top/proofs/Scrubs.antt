@@ -22,7 +22,7 @@ no_fault : (before now : World) (answers : List Answer) (f : Option Fault) (S : 
 no_fault before now answers f S begins sound none r = ⊎_elim
     (λ done. ⊎_elim
     (λ all. all.1 ∙ ap first_damage (done.2.sound S begins sound))
-    (λ cut. printed_whole before now _ f none cut.2.0)
+    (λ cut. printed_whole before now _ f none cut.2)
     done.2.ends)
     (λ refused. printed_whole before now _ f none refused.2.printed)
     r.course

@@ -87,18 +87,18 @@ fn a_report_without_room_comes_before_the_damage(rt: HostRuntime) -> Result<(), 
     Ok(())
 }
 
-// Whether a scrub over a shelf whose call of this number fails is refused for it. An opening makes five calls.
+// Whether a scrub over a shelf whose call of this number fails is refused for it. An opening makes six calls.
 fn is_refused(alloc: Global, call: u64) -> Result<bool, Fail> {
     let failing = FaultShelf::new(store_of_two(alloc)?, [call].to_vec(alloc)?, false);
     let seen = run_on(alloc, "scrub", b"", &STANDARD, failing)?;
     let answer = Answer::Refused(Fault::StoreFault(1));
     let answers = seen.answers.as_slice() == [answer].as_slice();
-    let texts = seen.out.as_slice() == b"error 6: store failed\n" && seen.report.is_empty();
+    let texts = seen.out.as_slice() == b"error 6: store failed\n".as_slice() && seen.report.is_empty();
     Ok(answers && texts && seen.status == 6 && seen.fault == None)
 }
 
 fn first_untold(alloc: Global) -> Result<Option<u64>, Fail> {
-    for call in 6..10u64 {
+    for call in 7..11u64 {
         if !is_refused(alloc, call)? {
             return Ok(Some(call));
         }

@@ -1,5 +1,5 @@
 // What a scrub on one thread finds.
-use crate::stores::{Change, change, payload_name, payload_of, store_of};
+use crate::stores::{Change, damage_payload, payload_name, payload_of, store_of};
 use keeper_driver::store::started;
 use keeper_driver::sum;
 use payload_health::{Bad, Findings, Health};
@@ -41,7 +41,7 @@ fn health_behind(id: Id, with: Change) -> Health {
 // Whether a scrub of three containers finds this change of one of them, and nothing else.
 fn finds(alloc: Global, id: Id, with: Change) -> Result<bool, Fail> {
     let mut shelf = store_of(alloc, 3)?;
-    change(alloc, &mut shelf, id, with)?;
+    damage_payload(alloc, &mut shelf, id, with)?;
     let found = found_on(alloc, shelf)??;
     let bad = Bad {
         id,
@@ -78,8 +78,8 @@ fn each_damage_of_each_container_is_found(rt: HostRuntime) -> Result<(), Fail> {
 // payload that no version names.
 fn ids_found(alloc: Global) -> Result<(u64, Vec<Id>), Fail> {
     let mut shelf = store_of(alloc, 4)?;
-    change(alloc, &mut shelf, 4, Change::IsGone)?;
-    change(alloc, &mut shelf, 1, Change::HasAnotherByte)?;
+    damage_payload(alloc, &mut shelf, 4, Change::IsGone)?;
+    damage_payload(alloc, &mut shelf, 1, Change::HasAnotherByte)?;
     shelf.put(alloc, payload_name(9), b"x")?;
     let found = found_on(alloc, shelf)??;
     let mut ids = Vec::new(alloc);
@@ -108,10 +108,10 @@ fn an_empty_store_is_good(rt: HostRuntime) -> Result<(), Fail> {
     Ok(())
 }
 
-// Over a store of two containers an opening makes five calls, and a scrub four more. The first of these whose failure is not
+// Over a store of two containers an opening makes six calls, and a scrub four more. The first of these whose failure is not
 // the refusal.
 fn first_untold(alloc: Global) -> Result<Option<u64>, Fail> {
-    for call in 6..10u64 {
+    for call in 7..11u64 {
         let shelf = FaultShelf::new(store_of(alloc, 2)?, [call].to_vec(alloc)?, false);
         let is_told = match found_on(alloc, shelf)? {
             Ok(_) => false,

@@ -36,7 +36,7 @@ fn table_name(id: Id) -> Name {
     }
 }
 
-//// The payload of a container: three chunks of four bytes, each with a letter for its id.
+/// The payload of a container: three chunks of four bytes, each with a letter for its id.
 pub fn payload_of(id: Id) -> [u8; 12] {
     let letter = b'a' + (id % 26) as u8;
     [
@@ -66,7 +66,7 @@ fn table_with_sum(alloc: Global, id: Id, bytes: &[u8]) -> Result<Table, Fault>
 }
 
 /// Changes a payload of such a store.
-pub fn change(alloc: Global, shelf: &mut MemShelf, id: Id, change: Change) -> Result<(), Fail> {
+pub fn damage_payload(alloc: Global, shelf: &mut MemShelf, id: Id, change: Change) -> Result<(), Fail> {
     let mut bytes = payload_of(id).to_vec(alloc)?;
     match change {
         Change::IsGone => {

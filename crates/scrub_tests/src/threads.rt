@@ -1,7 +1,7 @@
 // Checks in threads.
 ghost use Rattle.std.specs.Prelude.{◌≤◌};
 
-use crate::stores::{Change, change, store_of};
+use crate::stores::{Change, damage_payload, store_of};
 use keeper_core::Keeper;
 use keeper_driver::store::started;
 use payload_health::{Findings, Health};
@@ -16,9 +16,9 @@ use vault_types::Fault;
 // A store of nine containers, of which the payloads of 2, 5 and 9 are damaged.
 fn damaged(alloc: Global) -> Result<Keeper<MemShelf>, Fail> {
     let mut shelf = store_of(alloc, 9)?;
-    change(alloc, &mut shelf, 2, Change::IsGone)?;
-    change(alloc, &mut shelf, 5, Change::HasAnotherChunk)?;
-    change(alloc, &mut shelf, 9, Change::HasOneByteMore)?;
+    damage_payload(alloc, &mut shelf, 2, Change::IsGone)?;
+    damage_payload(alloc, &mut shelf, 5, Change::HasAnotherChunk)?;
+    damage_payload(alloc, &mut shelf, 9, Change::HasOneByteMore)?;
     Ok(started(alloc, shelf)?.into_keeper())
 }
 

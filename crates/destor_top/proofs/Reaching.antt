@@ -133,3 +133,28 @@ module _ (in_order : Bool) (words : List (List ℕ)) (limits : Limits) (before n
       (λ e. inr (ended S begins sound none f e))
       (λ r. inl (whole S begins sound none (own (subst (λ (o : Option Command). IsSomeAnd o (λ e. Runs in_order Reached e limits before now answers f)) is r)).runs))
       run.course
+
+-- words that are none, or a want of memory for reading them
+pub complete_early : (words : List (List ℕ)) (limits : Limits) (before now : World) (answers : List Answer) (f : Option Fault) (e : Fault) → (e ≡ fault.Memory) ⊎ ((e ≡ fault.Usage) × (command_of words ≡ None)) → f ≡ Some e → answers ≡ []
+    → IsCompleteRun words limits before now answers f
+complete_early words limits before now answers f e why is none c S same reached can told begins sound rose = ⊎_elim
+    (λ memory. inr (none, is ∙ ap (λ (g : Fault). Some g) memory))
+    (λ usage. absurd (let clash : ◌≡◌ {A = Option Command} None (Some c) = sym usage.1 ∙ same in cc))
+    why
+
+-- a command that is none of its own
+pub other_is : (words : List (List ℕ)) (c : Command) → command_of words ≡ Some c → ((workers : ℕ) → c ≡ command.Scrub workers → ⊥) → IsOther words
+other_is words c is other d same = step d (let e : Some c ≡ Some d = sym is ∙ same in e)
+  where
+    not_own : (d : Command) → c ≡ d → is_own d ≡ false
+    not_own (command.Backup a b d e p) e' = refl
+    not_own (command.Restore a b d p) e' = refl
+    not_own (command.Delete a b) e' = refl
+    not_own (command.Show a b) e' = refl
+    not_own (command.Batch a b d) e' = refl
+    not_own (command.Fill a b d e g) e' = refl
+    not_own command.Migrate e' = refl
+    not_own (command.Scrub w) e' = absurd (other w e')
+
+    step : (d : Command) → Some c ≡ Some d → is_own d ≡ false
+    step d e = not_own d (let inner : c ≡ d = cc in inner)

@@ -54,10 +54,13 @@ pub fn run_plain<S: Shelf, P: Places, I: Source + Send, O: Sink + Send, R: Sink>
         (I.told result.input) (O.told result.out) (R.told report.new))
         result.answers.items result.fault }
 {
-    match read_words(alloc, words) {
-        Err(fault) => ended_early(alloc, fault, shelf, input, out, report),
-        Ok(Command::Scrub { .. }) => run_scrub_plain(alloc, shelf, input, out, report),
-        Ok(_) => run_words::<S, KeeperStore<S>, P, I, O, R>(
+    let command = match read_words(alloc, words) {
+        Err(fault) => return ended_early(alloc, fault, shelf, input, out, report),
+        Ok(command) => command,
+    };
+    match command {
+        Command::Scrub { .. } => run_scrub_plain(alloc, shelf, input, out, report),
+        _ => run_words::<S, KeeperStore<S>, P, I, O, R>(
             alloc, words, limits, shelf, places, input, out, report,
         ),
     }
@@ -103,12 +106,15 @@ where
         (I.told result.input) (O.told result.out) (R.told report.new))
         result.answers.items result.fault }
 {
-    match read_words(alloc, words) {
-        Err(fault) => ended_early(alloc, fault, shelf, input, out, report),
-        Ok(Command::Scrub { workers }) => run_scrub(
-            &rt, alloc, scope, workers, shelf, input, out, report,
-        ),
-        Ok(_) => run_threaded(
+    let command = match read_words(alloc, words) {
+        Err(fault) => return ended_early(alloc, fault, shelf, input, out, report),
+        Ok(command) => command,
+    };
+    match command {
+        Command::Scrub { workers } => {
+            run_scrub(&rt, alloc, scope, workers, shelf, input, out, report)
+        }
+        _ => run_threaded(
             rt, alloc, scope, words, limits, shelf, places, input, out, report,
         ),
     }

@@ -1,6 +1,7 @@
 use Rattle.std.proofs.Common.{rules, ◌++◌, ◌∷◌, [], ℕ, List, map, refl, sym, ◌∙◌, ap, subst, Some}
 use Rattle.std.specs.Prelude.{Err, IsSome, IsSomeAnd, slice_get}
 use Rattle.std.specs.List.{AllByRecursion}
+use Rattle.vault_types.specs.declared.Fault.TheVariants as fault
 use Rattle.vault_types.specs.declared.Fault.{Fault}
 use Rattle.vault_types.specs.declared.Row.{Row}
 use Rattle.vault_types.specs.Lists.{has, set_of}
@@ -93,7 +94,7 @@ returns-in-Err g c = record {
 
 pub returns-in_err-ids : goal.returns-in_err-ids
 returns-in_err-ids g c =
-    pinned_as (λ (r : Result PinnedRecipe Fault). PinsRecipe c.args.set c.args.version c.args.self.now (record { told = g.S.Shelf.told c.get_recipe.new.shelf; memo = memo_of c.self.inside.catalog; index = index_of c.self.inside.stand; pins = c.self.inside.pins; job = job_of c.self.inside.stand; pending = c.self.inside.pending }) r) c.from_residual-in_err-ids.result c.in_err-ids.field-0.0 c.from_residual-in_err-ids.ensures.1
+    pinned_as (λ (r : Result PinnedRecipe Fault). PinsRecipe c.args.set c.args.version c.args.self.now (record { told = g.S.Shelf.told c.get_recipe.new.shelf; memo = memo_of c.self.inside.catalog; index = index_of c.self.inside.stand; pins = c.self.inside.pins; job = job_of c.self.inside.stand; pending = c.self.inside.pending }) r) c.from_residual-in_err-ids.result fault.Memory c.from_residual-in_err-ids.ensures.1
     (record {
       pins = record {
         ok = search rules;
@@ -116,7 +117,7 @@ returns-in_err-ids g c =
 
 pub returns-in_err-no : goal.returns-in_err-no
 returns-in_err-no g c =
-    pinned_as (λ (r : Result PinnedRecipe Fault). PinsRecipe c.args.set c.args.version c.args.self.now (record { told = g.S.Shelf.told c.get_recipe.new.shelf; memo = memo_of c.self.inside.catalog; index = index_of c.self.inside.stand; pins = c.pin.new.self; job = job_of c.self.inside.stand; pending = c.self.inside.pending }) r) c.from_residual-in_err-no.result c.in_err-no.field-0.0 c.from_residual-in_err-no.ensures.1
+    pinned_as (λ (r : Result PinnedRecipe Fault). PinsRecipe c.args.set c.args.version c.args.self.now (record { told = g.S.Shelf.told c.get_recipe.new.shelf; memo = memo_of c.self.inside.catalog; index = index_of c.self.inside.stand; pins = c.pin.new.self; job = job_of c.self.inside.stand; pending = c.self.inside.pending }) r) c.from_residual-in_err-no.result fault.Memory c.from_residual-in_err-no.ensures.1
     (record {
       pins = record {
         ok = search rules;

@@ -2,3 +2,4 @@ pub mod Ascending
 pub mod Staying
 pub mod Readings
 pub mod Steps
+pub mod Turns

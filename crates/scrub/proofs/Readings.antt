@@ -1,6 +1,6 @@
 -- One container is read, or it is not.
 use Rattle.std.proofs.Common.{◌≡◌, ◌⊎◌, inl, inr, ℕ, ◌≤◌, ◌<◌, List, map, Option, Some, None, refl, sym, ap, ◌∙◌, subst, arith}
-use Rattle.std.specs.Prelude.{Result, Ok, Err, IsSome}
+use Rattle.std.specs.Prelude.{Result, Ok, Err, IsErrAnd, IsSome}
 use Rattle.vault_types.specs.declared.Kind.{Kind}
 use Rattle.vault_types.specs.declared.Why.{Why}
 use Rattle.vault_types.specs.declared.Table.{Table}
@@ -20,6 +20,10 @@ use Rattle.keeper_core.specs.NextNamed.{IsNextAbove}
 use Rattle.scrub.specs.Scrubbing.{Stays, IsScrubDamage}
 use Rattle.scrub.specs.Walking.{ReadsNext}
 use Rattle.scrub.proofs.Staying.{stays_keeps, stays_on, cause_from}
+
+pub refused_as : (P : Result (Option Container) Fault → Type 0) (r : Result (Option Container) Fault) (e : Fault) → IsErrAnd r (λ f. f ≡ e) → P (Err e) → P r
+refused_as P (Ok a) e is h = absurd is
+refused_as P (Err f) e is h = subst (λ (g : Fault). P (Err g)) (sym is) h
 
 -- what the calls of a keeper say of what stays
 pub stays_by : (u v : View) → (v.memo ≡ u.memo) × (v.index ≡ u.index) × (v.pins ≡ u.pins) × (v.job ≡ u.job) × (v.pending ≡ u.pending)

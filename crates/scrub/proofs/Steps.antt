@@ -1,5 +1,5 @@
 -- One container more is read or noted, and the end.
-use Rattle.std.proofs.Common.{◌≡◌, ◌⊎◌, ⊎_elim, ℕ, ◌≤◌, ◌<◌, ◌+◌, List, [], ◌∷◌, ◌++◌, map, length, length-append, append_assoc, Option, Some, None, refl, sym, ap, ◌∙◌, subst, arith, suc}
+use Rattle.std.proofs.Common.{◌≡◌, ◌⊎◌, ⊎_elim, ℕ, ◌≤◌, ◌<◌, ◌+◌, ◌^◌, List, [], ◌∷◌, ◌++◌, map, length, length-append, append_assoc, Option, Some, None, refl, sym, ap, ◌∙◌, subst, arith, suc}
 use Rattle.std.specs.Prelude.{Contains, Result, Ok, Err, IsSome}
 use Rattle.std.specs.List.{AllByRecursion}
 use Rattle.std.proofs.lemmas.List.{map-append}
@@ -190,34 +190,34 @@ underway_noted u v passed f g c waiting is one = record {
   few = let a = is.few in let b = one.count in omega (arith, a, b);
 }
 
--- all were read and noted
+-- all were read
 abbrev pub IsOver : View → View → Findings → List Container → Type 0
-IsOver u v f waiting = (passed : ℕ) × IsUnderway u v passed f waiting × ((K : Core) → Keeps u K → IsNextAbove (map id_of K.state.containers) passed None)
+IsOver u v f waiting = (passed : ℕ) × (passed < 2 ^ 64) × IsUnderway u v passed f waiting × ((K : Core) → Keeps u K → IsNextAbove (map id_of K.state.containers) passed None)
 
-pub over_now : (u v w : View) (passed : ℕ) (f : Findings) (waiting : List Container) → IsUnderway u v passed f waiting → ReadsNext v w passed (Ok None) → IsOver u w f waiting
-over_now u v w passed f waiting is reads = (passed, underway_still u v w passed f waiting is reads, λ K keeps. reads.next K (stays_keeps u v K is.stays keeps))
+pub over_now : (u v w : View) (passed : ℕ) (f : Findings) (waiting : List Container) → passed < 2 ^ 64 → IsUnderway u v passed f waiting → ReadsNext v w passed (Ok None) → IsOver u w f waiting
+over_now u v w passed f waiting low is reads = (passed, low, underway_still u v w passed f waiting is reads, λ K keeps. reads.next K (stays_keeps u v K is.stays keeps))
 
 pub over_noted : (u v : View) (f g : Findings) (c : Container) (waiting : List Container) → IsOver u v f (c ∷ waiting) → NotesOne f g c → IsOver u v g waiting
-over_noted u v f g c waiting over one = (over.0, underway_noted u v over.0 f g c waiting over.1 one, over.2)
+over_noted u v f g c waiting over one = (over.0, over.1, underway_noted u v over.0 f g c waiting over.2 one, over.3)
+
+append_none : {X : Type 0} (cs : List X) → cs ++ [] ≡ cs
+append_none [] = refl
+append_none (c ∷ cs) = ap (λ ds. c ∷ ds) (append_none cs)
 
 pub scrubs_done : (u v : View) (f : Findings) → IsOver u v f [] → Scrubs u v (Ok f)
 scrubs_done u v f over =
-    let is = over.1 in
+    let is = over.2 in
     record {
       found = λ K keeps.
           let come = is.come K keeps in
-          let all = all_read u v v over.0 f [] K keeps come (over.2 K keeps) in
+          let all = all_read u v v over.0 f [] K keeps come (over.3 K keeps) in
           (come.noted, subst (λ (cs : List Container). AreReadAs u.told.blobs cs come.noted) all (subst (λ (ds : List Container). AreReadAs u.told.blobs come.done ds) (append_none come.noted) come.read), come.found);
       gets = λ K keeps.
           let come = is.come K keeps in
-          let all = all_read u v v over.0 f [] K keeps come (over.2 K keeps) in
+          let all = all_read u v v over.0 f [] K keeps come (over.3 K keeps) in
           come.gets ∙ ap (λ (cs : List Container). counted_up u.told.gets (length cs)) all;
       few = λ K keeps. got_few u v v over.0 f [] K keeps (is.come K keeps);
       stays = is.stays;
       keeps = λ K keeps. stays_keeps u v K is.stays keeps;
       causes = record { later = is.later; each = tt };
     }
-  where
-    append_none : (cs : List Container) → cs ++ [] ≡ cs
-    append_none [] = refl
-    append_none (c ∷ cs) = ap (λ (ds : List Container). c ∷ ds) (append_none cs)

@@ -66,3 +66,7 @@ pub record NotesOne (f g : Findings) (c : Container) : Type 0 where
 abbrev pub NotesOldest : List Container → List Container → Findings → Findings → Type 0
 NotesOldest [] now f g = (now ≡ []) × (g ≡ f)
 NotesOldest (c ∷ cs) now f g = (now ≡ cs) × NotesOne f g c
+
+-- nothing was noted, or the oldest check
+abbrev pub NotesAtMostOne : List Container → List Container → Findings → Findings → Type 0
+NotesAtMostOne before now f g = ((now ≡ before) × (g ≡ f)) ⊎ NotesOldest before now f g

@@ -1,7 +1,7 @@
 //! So many checks at a time, each in a thread.
 ghost use Rattle.std.specs.Prelude.{◌≤◌, ◌<◌, ◌-◌, ◌^◌, OnOk};
 ghost use Rattle.scrub.specs.Scrubbing.{Scrubs};
-ghost use Rattle.scrub.specs.Walking.{NotesOldest};
+ghost use Rattle.scrub.specs.Walking.{NotesOldest, NotesAtMostOne};
 
 use crate::check::Check;
 use crate::checking::Checking;
@@ -31,6 +31,22 @@ fn note_oldest<R: Threads + Wait>(
         }
         None => Ok(()),
     }
+}
+
+// Ends the oldest check where so many run, and notes what it found.
+fn make_room<R: Threads + Wait>(
+    rt: &R,
+    running: &mut VecDeque<Checking>,
+    findings: &mut Findings,
+    workers: usize,
+) -> Result<(), Memory>
+    requires { findings.old.containers < 2 ^ 64 - 1 }
+    ensures { OnOk result (NotesAtMostOne running.old.items running.new.items findings.old findings.new) }
+{
+    if running.len() == workers {
+        return note_oldest(rt, running, findings);
+    }
+    Ok(())
 }
 
 /// Does what `scrub_plain` does, with so many checks at a time, 1 to 8, each in a thread of the scope; one whose thread is
@@ -67,9 +83,7 @@ pub fn scrub_on<'s, E: 's, R: Threads + Wait, S: Shelf, C: Check>(
     let mut passed = 0;
     while let Some(read) = read_next(alloc, keeper, passed)? {
         passed = read.id();
-        if running.len() == workers as usize {
-            note_oldest(rt, &mut running, &mut findings)?;
-        }
+        make_room(rt, &mut running, &mut findings, workers as usize)?;
         running.push_back(Checking::start(scope, stack, check, read))?;
     }
     while !running.is_empty() {

@@ -1,11 +1,9 @@
 -- In a sound state nothing is damaged.
-use Rattle.std.proofs.Common.{◌≡◌, Bool, true, false, not, cond, List, [], ◌∷◌, refl, ap, ◌∙◌}
+use Rattle.std.proofs.Common.{◌≡◌, Bool, not, cond, List, [], ◌∷◌, refl, ap, ◌∙◌}
 use Rattle.std.specs.List.{AllByRecursion}
 use Rattle.vault_types.specs.Tables.{Container}
 use Rattle.vault_types.specs.State.{State}
 use Rattle.vault_types.specs.Bytes.{HasPayload, IsSound}
-use Rattle.payload_health.specs.declared.Bad.{Bad}
-use Rattle.payload_health.specs.Health.{health_of, is_good}
 use Rattle.payload_health.specs.Findings.{health_in, bad_in}
 use Rattle.payload_health.proofs.Whole.{good_where_whole}
 

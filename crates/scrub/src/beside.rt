@@ -1,5 +1,5 @@
 //! So many checks at a time, each in a thread.
-ghost use Rattle.std.specs.Prelude.{◌≤◌, ◌<◌, ◌-◌, ◌^◌, OnOk};
+ghost use Rattle.std.specs.Prelude.{◌<◌, ◌-◌, ◌^◌, OnOk};
 ghost use Rattle.scrub.specs.Scrubbing.{Scrubs};
 ghost use Rattle.scrub.specs.Walking.{NotesOldest, NotesAtMostOne};
 
@@ -59,7 +59,6 @@ pub fn scrub<'s, E: 's, R: Threads + Wait, S: Shelf, C: Check>(
     check: &'s C,
     workers: u32,
 ) -> Result<Findings, Fault>
-    requires { 1 ≤ workers }
     ensures { Scrubs keeper.old keeper.new result }
 {
     scrub_on(rt, alloc, scope, None, keeper, check, workers)
@@ -75,7 +74,6 @@ pub fn scrub_on<'s, E: 's, R: Threads + Wait, S: Shelf, C: Check>(
     check: &'s C,
     workers: u32,
 ) -> Result<Findings, Fault>
-    requires { 1 ≤ workers }
     ensures { Scrubs keeper.old keeper.new result }
 {
     let mut findings = Findings::new(alloc);

@@ -1,5 +1,4 @@
 // A scrub of the store on a shelf.
-ghost use Rattle.std.specs.Prelude.{◌≤◌};
 ghost use Rattle.vault_traits.specs.Told.{PlacesTold};
 ghost use Rattle.store_model.specs.World.{world};
 ghost use Rattle.command_runner.specs.Going.{GoesOn};
@@ -53,7 +52,6 @@ pub fn run_scrub<'s, E: 's, T: Threads + Wait, S: Shelf, I: Source, O: Sink, R: 
     out: O,
     report: &mut R,
 ) -> Ended<S, I, O>
-    requires { 1 ≤ workers }
     ensures { (places : PlacesTold) → GoesOn RunsScrub
         (world (S.told shelf) places (I.told input) (O.told out) (R.told report.old))
         (world (S.told result.shelf) places (I.told result.input) (O.told result.out) (R.told report.new))

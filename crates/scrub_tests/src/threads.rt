@@ -1,6 +1,4 @@
 // Checks in threads.
-ghost use Rattle.std.specs.Prelude.{◌≤◌};
-
 use crate::stores::{Change, damage_payload, store_of};
 use keeper_core::Keeper;
 use keeper_driver::store::started;
@@ -43,9 +41,9 @@ fn workers_find_what_one_thread_finds(rt: HostRuntime) -> Result<(), Fail> {
         let found = thread::scope(
             thread::scope_env(),
             &rt,
-            |scope| -> Result<Findings, Fault>
-                requires { 1 ≤ workers }
-            { scrub(&rt, alloc, scope, &mut keeper, &Plain, workers) },
+            |scope| -> Result<Findings, Fault> {
+                scrub(&rt, alloc, scope, &mut keeper, &Plain, workers)
+            },
         )?;
         if !is_found(&found) {
             wrong = Some(workers);

@@ -93,7 +93,8 @@ fn is_refused(alloc: Global, call: u64) -> Result<bool, Fail> {
     let seen = run_on(alloc, "scrub", b"", &STANDARD, failing)?;
     let answer = Answer::Refused(Fault::StoreFault(1));
     let answers = seen.answers.as_slice() == [answer].as_slice();
-    let texts = seen.out.as_slice() == b"error 6: store failed\n".as_slice() && seen.report.is_empty();
+    let texts = seen.out.as_slice() == b"error 6: store failed\n".as_slice()
+        && seen.report.is_empty();
     Ok(answers && texts && seen.status == 6 && seen.fault == None)
 }
 

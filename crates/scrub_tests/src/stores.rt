@@ -66,7 +66,12 @@ fn table_with_sum(alloc: Global, id: Id, bytes: &[u8]) -> Result<Table, Fault>
 }
 
 /// Changes a payload of such a store.
-pub fn damage_payload(alloc: Global, shelf: &mut MemShelf, id: Id, change: Change) -> Result<(), Fail> {
+pub fn damage_payload(
+    alloc: Global,
+    shelf: &mut MemShelf,
+    id: Id,
+    change: Change,
+) -> Result<(), Fail> {
     let mut bytes = payload_of(id).to_vec(alloc)?;
     match change {
         Change::IsGone => {

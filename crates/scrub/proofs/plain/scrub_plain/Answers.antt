@@ -20,17 +20,19 @@ pub loop-findings-preserved-in_ok-add : goal.loop-findings-preserved-in_ok-add
 loop-findings-preserved-in_ok-add g c =
     let l = c.loop-findings in
     let id = c.id-passed.result in
-    let turn = read_one c.args.keeper.now l.keeper c.read_next.new.keeper l.passed l.findings [] l.invariant.0 c.in_ok-read.field-0 c.in_ok-read.ensures c.in-Some.read id c.in-Some.is c.id-passed.ensures in
-    (noted c.args.keeper.now c.read_next.new.keeper id l.findings c.add.new.self (c.in-Some.read ∷ []) [] [] (refl, record { count = c.in_ok-add.ensures.count; found = λ cs is. c.in_ok-add.ensures.found cs c.in-Some.read is (sym c.id-passed.ensures) (sym c.health.ensures) }) turn,
-    omega (arith, c.id-passed.ensures, c.read.invariant.id_high, ap (λ (x : Container). x.table.id) c.read.view_is))
+    let turn = read_one c.args.keeper.now l.keeper c.read_next.new.keeper l.passed l.findings [] l.invariant.0 c.in_ok-read.field-0 c.in_ok-read.ensures c.in-Some.read id c.in-Some.is c.id-passed.ensures in (
+      noted c.args.keeper.now c.read_next.new.keeper id l.findings c.add.new.self (c.in-Some.read ∷ []) [] [] (refl, record { count = c.in_ok-add.ensures.count; found = λ cs is. c.in_ok-add.ensures.found cs c.in-Some.read is (sym c.id-passed.ensures) (sym c.health.ensures) }) turn,
+      omega (arith, c.id-passed.ensures, c.read.invariant.id_high, ap (λ (x : Container). x.table.id) c.read.view_is),
+    )
 
 pub loop-findings-preserved : goal.loop-findings-preserved
 loop-findings-preserved g c =
     let l = c.loop-findings in
     let id = c.id-passed.result in
-    let turn = read_one c.args.keeper.now l.keeper c.read_next.new.keeper l.passed l.findings [] l.invariant.0 c.in_ok-read.field-0 c.in_ok-read.ensures c.in-Some.read id c.in-Some.is c.id-passed.ensures in
-    (noted c.args.keeper.now c.read_next.new.keeper id l.findings c.add.new.self (c.in-Some.read ∷ []) [] [] (refl, record { count = c.in_ok-add.ensures.count; found = λ cs is. c.in_ok-add.ensures.found cs c.in-Some.read is (sym c.id-passed.ensures) (sym c.health.ensures) }) turn,
-    omega (arith, c.id-passed.ensures, c.read.invariant.id_high, ap (λ (x : Container). x.table.id) c.read.view_is))
+    let turn = read_one c.args.keeper.now l.keeper c.read_next.new.keeper l.passed l.findings [] l.invariant.0 c.in_ok-read.field-0 c.in_ok-read.ensures c.in-Some.read id c.in-Some.is c.id-passed.ensures in (
+      noted c.args.keeper.now c.read_next.new.keeper id l.findings c.add.new.self (c.in-Some.read ∷ []) [] [] (refl, record { count = c.in_ok-add.ensures.count; found = λ cs is. c.in_ok-add.ensures.found cs c.in-Some.read is (sym c.id-passed.ensures) (sym c.health.ensures) }) turn,
+      omega (arith, c.id-passed.ensures, c.read.invariant.id_high, ap (λ (x : Container). x.table.id) c.read.view_is),
+    )
 
 pub returns : goal.returns
 returns g c =

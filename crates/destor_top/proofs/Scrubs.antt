@@ -1,7 +1,6 @@
 -- A run of `scrub`.
 use Rattle.std.proofs.Common.{◌≡◌, ⊎_elim, Bool, ℕ, List, Option, Some, None, ap, ◌∙◌}
 use Rattle.vault_types.specs.declared.Limits.{Limits}
-use Rattle.vault_types.specs.declared.Command.{Command}
 use Rattle.vault_types.specs.declared.Command.TheVariants as command
 use Rattle.vault_types.specs.declared.Fault.{Fault}
 use Rattle.vault_types.specs.declared.Answer.{Answer}

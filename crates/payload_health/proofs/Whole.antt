@@ -1,5 +1,5 @@
 -- A payload is good exactly where it is whole.
-use Rattle.std.proofs.Common.{◌≡◌, ◌≤◌, ◌+◌, ◌-◌, min, ℕ, Bool, true, false, not, cond, List, [], ◌∷◌, ◌++◌, map, take, drop, length, Option, Some, None, refl, sym, ap, ◌∙◌, subst, arith, length-append}
+use Rattle.std.proofs.Common.{◌≡◌, ◌+◌, ◌-◌, ℕ, Bool, true, false, not, cond, List, [], ◌∷◌, ◌++◌, map, take, drop, length, Option, Some, None, refl, sym, ap, ◌∙◌, arith, length-append}
 use Rattle.std.specs.Prelude.{◌==◌, IsSomeAnd}
 use Rattle.std.specs.List.{concat}
 use Rattle.std.proofs.lemmas.Bool.Decides.{nat_tests}
@@ -13,7 +13,7 @@ use Rattle.vault_types.specs.Names.{fp, same_fp}
 use Rattle.vault_types.specs.Tables.{table_row, payload_len, IsWhole}
 use Rattle.vault_types.proofs.FillLemmas.{same_fps}
 use Rattle.payload_health.specs.declared.Health.{Health}
-use Rattle.payload_health.specs.declared.Health.TheVariants.{Good, Absent, Length, Sum, Chunk}
+use Rattle.payload_health.specs.declared.Health.TheVariants.{Good, Length, Sum, Chunk}
 use Rattle.payload_health.specs.Health.{first_bad, health_of, is_good, IsGoodWhereWhole}
 use Rattle.payload_health.proofs.Comparing.{same_is}
 

@@ -1,5 +1,5 @@
 -- What a check of containers finds.
-use Rattle.std.specs.Prelude.{ℕ, not, List, map, filter, length}
+use Rattle.std.specs.Prelude.{not, List, map, filter, length}
 use Rattle.vault_types.specs.Tables.{Container}
 use Rattle.payload_health.specs.declared.Bad.{Bad}
 use Rattle.payload_health.specs.declared.Findings.{Findings}

@@ -1,5 +1,5 @@
 -- How the payload of a container is, by its table.
-use Rattle.std.specs.Prelude.{◌≡◌, ◌↔◌, ℕ, ◌+◌, Bool, true, false, not, IsTrue, List, [], ◌∷◌, take, drop, length, ◌==◌, Option, Some, None, IsSomeAnd, if◌then◌else◌}
+use Rattle.std.specs.Prelude.{◌↔◌, ℕ, ◌+◌, Bool, true, false, not, IsTrue, List, [], ◌∷◌, take, drop, length, ◌==◌, Option, Some, None, IsSomeAnd, if◌then◌else◌}
 use Rattle.vault_types.specs.declared.TableRow.{TableRow}
 use Rattle.vault_types.specs.declared.Table.{Table}
 use Rattle.vault_types.specs.Names.{fp, same_fp}

@@ -1,10 +1,10 @@
 -- Containers with ascending ids, cut behind those up to an id.
-use Rattle.std.proofs.Common.{◌≡◌, ◌⊎◌, ⊎_elim, true, ℕ, ◌≤◌, ◌<◌, List, [], ◌∷◌, ◌++◌, map, Some, None, refl, sym, ap, ◌∙◌, subst, arith}
+use Rattle.std.proofs.Common.{◌≡◌, ◌⊎◌, ⊎_elim, ℕ, ◌≤◌, ◌<◌, List, [], ◌∷◌, ◌++◌, map, Some, None, refl, ap, ◌∙◌, subst, arith}
 use Rattle.std.specs.Prelude.{Contains}
 use Rattle.std.specs.List.{AllByRecursion}
 use Rattle.std.proofs.lemmas.List.{map-append}
-use Rattle.std.proofs.lemmas.List.Elements.{Contains-append_left, Contains-append_right, Contains-append_cases}
-use Rattle.vault_types.specs.Lists.{has, IsAscending}
+use Rattle.std.proofs.lemmas.List.Elements.{Contains-append_right, Contains-append_cases}
+use Rattle.vault_types.specs.Lists.{IsAscending}
 use Rattle.vault_types.specs.Tables.{Container, id_of}
 use Rattle.state_laws.proofs.Members.{here, first_or_rest, no_member, of_map, in_map}
 use Rattle.commit_laws.proofs.Listing.{all_at, all_append, all_weaker, all_unmap}

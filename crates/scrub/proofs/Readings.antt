@@ -1,18 +1,17 @@
 -- One container is read, or it is not.
-use Rattle.std.proofs.Common.{◌≡◌, ◌⊎◌, inl, inr, ℕ, ◌≤◌, ◌<◌, List, map, Option, Some, None, refl, sym, ap, ◌∙◌, subst, arith}
+use Rattle.std.proofs.Common.{◌≡◌, inl, inr, ℕ, ◌≤◌, List, map, Option, Some, None, refl, sym, ap, ◌∙◌, subst, arith}
 use Rattle.std.specs.Prelude.{Result, Ok, Err, IsErrAnd, IsSome}
 use Rattle.vault_types.specs.declared.Kind.{Kind}
 use Rattle.vault_types.specs.declared.Why.{Why}
 use Rattle.vault_types.specs.declared.Table.{Table}
 use Rattle.vault_types.specs.declared.Fault.{Fault}
-use Rattle.vault_types.specs.declared.Fault.TheVariants as fault
 use Rattle.vault_types.specs.Tables.{Container, id_of}
 use Rattle.vault_types.specs.State.{container_in, named}
 use Rattle.vault_types.specs.Shelf.{Blobs}
 use Rattle.vault_types.specs.BlobDamage.{IsTableDamage}
 use Rattle.vault_types.specs.Events.{Core}
 use Rattle.vault_traits.specs.Counts.{counted}
-use Rattle.vault_traits.specs.Causes.{IsCause, HasCauses, IsUndamaged}
+use Rattle.vault_traits.specs.Causes.{HasCauses, IsUndamaged}
 use Rattle.state_laws.proofs.Members.{container_in-some}
 use Rattle.commit_laws.proofs.Listing.{found_is}
 use Rattle.keeper_catalog.specs.View.{View, Keeps, HasCore}

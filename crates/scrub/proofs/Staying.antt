@@ -1,6 +1,6 @@
 -- What stays where all but counts is as before.
-use Rattle.std.proofs.Common.{◌≡◌, ℕ, ◌≤◌, ◌+◌, ◌-◌, ◌^◌, min, max, List, ◌∷◌, [], ◌++◌, Option, map, sym, ap, ◌∙◌, subst, arith}
-use Rattle.std.specs.Prelude.{Result, Ok, Err, Contains, IsSome}
+use Rattle.std.proofs.Common.{ℕ, ◌≤◌, Option, map, sym, ◌∙◌, subst, arith}
+use Rattle.std.specs.Prelude.{Err}
 use Rattle.vault_types.specs.declared.Kind.{Kind}
 use Rattle.vault_types.specs.declared.Why.{Why}
 use Rattle.vault_types.specs.declared.Fault.{Fault}
@@ -9,7 +9,7 @@ use Rattle.vault_types.specs.Tables.{Container}
 use Rattle.vault_types.specs.Shelf.{Blobs}
 use Rattle.vault_types.specs.BlobDamage.{IsTableDamage}
 use Rattle.vault_types.specs.Events.{Core}
-use Rattle.vault_traits.specs.Counts.{counted, Rose}
+use Rattle.vault_traits.specs.Counts.{Rose}
 use Rattle.vault_traits.specs.Causes.{IsCause, HasCauses}
 use Rattle.fp_index.specs.Index.{IsIndexOf}
 use Rattle.restore_pins.specs.Pins.{AreListsOf}

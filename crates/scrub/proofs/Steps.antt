@@ -1,6 +1,6 @@
 -- One container more is read or noted, and the end.
 use Rattle.std.proofs.Common.{◌≡◌, ◌⊎◌, ⊎_elim, ℕ, ◌≤◌, ◌<◌, ◌+◌, ◌^◌, List, [], ◌∷◌, ◌++◌, map, length, length-append, append_assoc, Option, Some, None, refl, sym, ap, ◌∙◌, subst, arith, suc}
-use Rattle.std.specs.Prelude.{Contains, Result, Ok, Err, IsSome}
+use Rattle.std.specs.Prelude.{Contains, Ok, Err, IsSome}
 use Rattle.std.specs.List.{AllByRecursion}
 use Rattle.std.proofs.lemmas.List.{map-append}
 use Rattle.vault_types.specs.declared.Table.{Table}
@@ -20,8 +20,8 @@ use Rattle.state_laws.proofs.Members.{here}
 use Rattle.std.proofs.lemmas.List.Elements.{Contains-append_right}
 use Rattle.keeper_catalog.specs.View.{View, Keeps}
 use Rattle.keeper_core.specs.NextNamed.{IsNextAbove}
-use Rattle.scrub.specs.Scrubbing.{AreReadAs, Stays, Scrubs, IsScrubDamage}
-use Rattle.scrub.specs.Walking.{IsReadNext, ReadsNext, HasCome, IsUnderway, NotesOne, gets_behind}
+use Rattle.scrub.specs.Scrubbing.{AreReadAs, Stays, Scrubs}
+use Rattle.scrub.specs.Walking.{IsReadNext, ReadsNext, HasCome, IsUnderway, NotesOne}
 use Rattle.scrub.proofs.Ascending.{rest_ascends, next_some, next_none, low_more}
 use Rattle.scrub.proofs.Staying.{stays_keeps, stays_on, refused_from}
 

@@ -1,14 +1,13 @@
 -- The turns of a scrub, as its loops take them.
-use Rattle.std.proofs.Common.{◌≡◌, ◌⊎◌, inl, inr, Bool, true, false, ℕ, ◌≤◌, ◌<◌, ◌+◌, ◌-◌, ◌^◌, List, [], ◌∷◌, ◌++◌, length, Option, Some, None, refl, sym, ap, ◌∙◌, subst, arith}
+use Rattle.std.proofs.Common.{◌≡◌, inl, inr, Bool, true, false, ℕ, ◌≤◌, ◌<◌, ◌+◌, ◌-◌, ◌^◌, List, [], ◌∷◌, ◌++◌, length, Option, Some, None, refl, sym, ap, ◌∙◌, subst, arith}
 use Rattle.std.specs.Prelude.{◌==◌, Result, Ok, Err, IsErrAnd}
 use Rattle.std.proofs.lemmas.Bool.Decides.{nat_tests}
 use Rattle.vault_types.specs.declared.Fault.{Fault}
 use Rattle.vault_types.specs.declared.Fault.TheVariants as fault
 use Rattle.vault_types.specs.Tables.{Container}
-use Rattle.vault_types.specs.Events.{Core}
 use Rattle.payload_health.specs.declared.Findings.{Findings}
 use Rattle.payload_health.specs.Findings.{findings_in}
-use Rattle.keeper_catalog.specs.View.{View, Keeps}
+use Rattle.keeper_catalog.specs.View.{View}
 use Rattle.scrub.specs.Scrubbing.{Scrubs}
 use Rattle.scrub.specs.Walking.{ReadsNext, IsUnderway, NotesOldest, NotesAtMostOne}
 use Rattle.scrub.proofs.Steps.{IsOver, over_now, over_noted, scrubs_done, scrubs_memory, scrubs_refused, underway_first, underway_noted, underway_read}

@@ -1,7 +1,6 @@
-use Rattle.std.proofs.Common.{map, ℕ, ◌∙◌, ap, Some}
+use Rattle.std.proofs.Common.{map, ◌∙◌, ap, Some}
 use Rattle.std.specs.Prelude.{true, string_bytes}
 use Rattle.vault_types.specs.declared.Command.{Command}
-use Rattle.vault_types.specs.declared.Command.TheVariants as command
 use Rattle.store_model.specs.World.{World, world}
 use Rattle.destor_top.proofs.Reaching.{complete_early, complete_of_other, other_is, run_of_other}
 use Rattle.destor_top.proofs.Scrubs.{complete_of_scrub, run_of_scrub}

@@ -1,6 +1,6 @@
 use Rattle.std.specs.Prelude.{option_map}
 use Rattle.scrub.specs.Walking.{ReadsNext}
-use Rattle.scrub.proofs.Readings.{container_of, fetch_refused, reads_one, refused_as, stays_by, table_refused}
+use Rattle.scrub.proofs.Readings.{container_of, reads_one, refused_as, stays_by, table_refused}
 use Rattle.scrub.proofs.reading.read_next.Goals as goal
 
 pub table-requires : goal.table-requires

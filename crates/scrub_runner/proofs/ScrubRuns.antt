@@ -8,6 +8,7 @@ use Rattle.vault_types.specs.declared.Why.{Why}
 use Rattle.vault_types.specs.declared.Why.TheVariants as why
 use Rattle.vault_types.specs.declared.Fault.{Fault}
 use Rattle.vault_types.specs.declared.Fault.TheVariants as fault
+use Rattle.vault_types.specs.declared.Answer.{Answer}
 use Rattle.vault_types.specs.declared.Answer.TheVariants.{Refused}
 use Rattle.vault_types.specs.Tables.{Container, IsTable}
 use Rattle.vault_types.specs.State.{State}
@@ -26,9 +27,10 @@ use Rattle.commit_laws.proofs.Listing.{all_at}
 use Rattle.commit_laws.proofs.Pinned.{held_has}
 use Rattle.store_model.specs.Causes.{CausesRise, counts_of_shelf}
 use Rattle.store_model.specs.Complete.{is_counted}
-use Rattle.store_model.specs.Early.{IsSameBut}
+use Rattle.store_model.specs.Early.{HasOpened, IsSameBut}
 use Rattle.store_model.specs.Leaves.{Begins}
-use Rattle.store_model.specs.World.{World, IsPrinted, report_text}
+use Rattle.store_model.specs.World.{World, IsPrinted, report_text, status_after}
+use Rattle.command_runner.specs.Going.{GoesOn}
 use Rattle.keeper_catalog.specs.View.{View, Keeps, HasCore}
 use Rattle.keeper_core.specs.Keeping.{IsStateOf}
 use Rattle.scrub.specs.Scrubbing.{Scrubs, IsScrubDamage}
@@ -143,3 +145,22 @@ module _ (before now : World) (u v : View) (same : IsSameBut before.shelf u.told
       input = input;
       places = places;
     }
+
+-- the run as it goes on behind the opening
+module _ (before now : World) (k u v : View) (opened : HasOpened before.shelf) (keeper : u ≡ k) (same : IsSameBut before.shelf k.told) (begins : (S : State) → Begins before.shelf S → IsStateOf k S None) (closed : now.shelf ≡ v.told) (input : now.input ≡ before.input) (places : now.places ≡ before.places)
+    (answers : List Answer) (f : Option Fault) (status : ℕ) (status_is : status ≡ status_after answers f) where
+  u_same : IsSameBut before.shelf u.told
+  u_same = subst (λ (w : View). IsSameBut before.shelf w.told) (sym keeper) same
+
+  u_begins : (S : State) → Begins before.shelf S → IsStateOf u S None
+  u_begins S start = subst (λ (w : View). IsStateOf w S None) (sym keeper) (begins S start)
+
+  goes : RunsScrub before now answers f → GoesOn RunsScrub before now answers f status
+  goes runs = record { course = inr (record { opened = opened; runs = runs }); status_is = status_is }
+
+  pub goes_done : (found : Findings) → answers ≡ answer_to found ∷ [] → Scrubs u v (Ok found) → EndsScrub found before.out now.out before.report now.report f → GoesOn RunsScrub before now answers f status
+  goes_done found is s ends = goes (subst (λ (l : List Answer). RunsScrub before now l f) (sym is) (done_run before now u v u_same u_begins closed input places f found s ends))
+
+  pub goes_refused : (e : Fault) → answers ≡ Refused e ∷ [] → HasCore u → Scrubs u v (Err e) → IsPrinted (report_text answers) before.out now.out f → now.report ≡ before.report → GoesOn RunsScrub before now answers f status
+  goes_refused e is core s printed report = goes (subst (λ (l : List Answer). RunsScrub before now l f) (sym is)
+      (refused_run before now u v u_same u_begins closed input places f e core s (subst (λ (l : List Answer). IsPrinted (report_text l) before.out now.out f) is printed) report))

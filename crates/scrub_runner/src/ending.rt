@@ -52,6 +52,22 @@ fn tell_first<R: Sink>(found: &Findings, report: &mut R) -> Option<Fault>
     first
 }
 
+// Prints the lines and the report; where all of that was written, it tells the first damage.
+fn print_and_tell<O: Sink, R: Sink>(
+    found: &Findings,
+    answers: &[Answer],
+    out: &mut O,
+    report: &mut R,
+) -> Option<Fault>
+    requires { answers.now ≡ answer_to found.now ∷ [] }
+    ensures { EndsScrub found.now (O.told out.old) (O.told out.new) (R.told report.old) (R.told report.new) result }
+{
+    match print_findings(found, answers, out) {
+        Some(fault) => Some(fault),
+        None => tell_first(found, report),
+    }
+}
+
 /// The end of a scrub that was done: the lines and the report are on `out`, and where all of that was written the line of
 /// the first damage is on `report`. It takes no memory.
 pub(crate) fn ended_done<S, I, O: Sink, R: Sink>(
@@ -76,11 +92,7 @@ pub(crate) fn ended_done<S, I, O: Sink, R: Sink>(
     };
     let answers = one_answer(room, answer);
     let mut out = out;
-    let unwritten = print_findings(found, answers.as_slice(), &mut out);
-    let fault = match unwritten {
-        Some(fault) => Some(fault),
-        None => tell_first(found, report),
-    };
+    let fault = print_and_tell(found, answers.as_slice(), &mut out, report);
     Ended {
         status: status_after(answers.as_slice(), fault),
         fault,

@@ -1,13 +1,13 @@
 -- What is printed and told at the end of a scrub.
-use Rattle.std.proofs.Common.{◌≡◌, inl, inr, ℕ, List, [], ◌∷◌, ◌++◌, Option, Some, None, refl, subst, ap, ◌∙◌}
+use Rattle.std.proofs.Common.{◌≡◌, inl, inr, List, [], ◌∷◌, ◌++◌, Option, Some, None, refl, subst, ap}
 use Rattle.std.specs.Prelude.{MatchOption}
 use Rattle.vault_types.specs.declared.Fault.{Fault}
 use Rattle.vault_types.specs.declared.Answer.{Answer}
-use Rattle.vault_traits.specs.Told.{SinkTold, Takes}
+use Rattle.vault_traits.specs.Told.{SinkTold}
 use Rattle.payload_health.specs.declared.Findings.{Findings}
 use Rattle.store_model.specs.World.{IsPrinted, IsTold, report_text}
 use Rattle.scrub_model.specs.Words.{damage_lines, first_damage}
-use Rattle.scrub_model.specs.Scrubbing.{EndsScrub, answer_to, scrub_text}
+use Rattle.scrub_model.specs.Scrubbing.{EndsScrub, answer_to}
 
 module _ (found : Findings) (answers : List Answer) (is : answers ≡ answer_to found ∷ []) (out out' report : SinkTold) where
   pub ends_unwritten : (f : Fault) → IsPrinted (damage_lines found.damaged ++ report_text answers) out out' (Some f) → EndsScrub found out out' report report (Some f)

@@ -1,6 +1,6 @@
 -- A scrub behind an opening.
-use Rattle.std.proofs.Common.{◌≡◌, ◌⊎◌, inl, inr, ⊎_elim, true, false, ℕ, ◌≤◌, List, [], ◌∷◌, length, Option, Some, None, refl, sym, ap, ◌∙◌, subst, arith}
-use Rattle.std.specs.Prelude.{IsTrue, IsSome, Contains, Result, Ok, Err}
+use Rattle.std.proofs.Common.{◌≡◌, ◌⊎◌, inl, inr, true, false, ℕ, ◌≤◌, List, [], ◌∷◌, length, Option, Some, None, refl, sym, ap, ◌∙◌, subst, arith}
+use Rattle.std.specs.Prelude.{IsTrue, IsSome, Contains, Ok, Err}
 use Rattle.std.proofs.lemmas.Bool.{false≢true}
 use Rattle.vault_types.specs.declared.Kind.{Kind}
 use Rattle.vault_types.specs.declared.Kind.TheVariants as kind
@@ -12,7 +12,6 @@ use Rattle.vault_types.specs.declared.Answer.{Answer}
 use Rattle.vault_types.specs.declared.Answer.TheVariants.{Refused}
 use Rattle.vault_types.specs.Tables.{Container, IsTable}
 use Rattle.vault_types.specs.State.{State}
-use Rattle.vault_types.specs.Bytes.{IsSound}
 use Rattle.vault_types.specs.Blobs.{table_bytes}
 use Rattle.vault_types.specs.Shelf.{Blobs, table_name, Has}
 use Rattle.vault_types.specs.BlobDamage.{IsTableWhy, IsTableDamage}
@@ -34,7 +33,7 @@ use Rattle.command_runner.specs.Going.{GoesOn}
 use Rattle.keeper_catalog.specs.View.{View, Keeps, HasCore}
 use Rattle.keeper_core.specs.Keeping.{IsStateOf}
 use Rattle.scrub.specs.Scrubbing.{Scrubs, IsScrubDamage}
-use Rattle.scrub_model.specs.Scrubbing.{EndsScrub, IsDoneScrub, IsRefusedScrub, RunsScrub, answer_to, may_refuse_scrub}
+use Rattle.scrub_model.specs.Scrubbing.{EndsScrub, RunsScrub, answer_to, may_refuse_scrub}
 use Rattle.scrub_model.proofs.Sound.{sound_good}
 
 -- the table of a named container is damaged: then it is not there, or is something else

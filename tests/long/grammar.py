@@ -30,9 +30,9 @@ COMMANDS = {
     "batch": ({}, {**STREAM, **WORKERS}),
     "fill": ({"seed": (0, 2**64 - 1), "versions": (1, 64)}, {**STREAM, **WORKERS}),
     "migrate": ({}, {}),
+    "scrub": ({}, WORKERS),
 }
 # read, and refused as they are not built
-RESERVED_COMMANDS = ["scrub"]
 RESERVED_SETTINGS = ["sample", "prefetch", "area"]
 
 SCRIPT_BYTES = 1_048_576

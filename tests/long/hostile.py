@@ -118,7 +118,7 @@ def value_for(draw, allowed):
 
 def words_from(draw):
     """Words behind the folder, some of them a command."""
-    name = draw.choice(list(grammar.COMMANDS) * 4 + grammar.RESERVED_COMMANDS + ["", "Backup", "backu", "backup ", "help", "-h"])
+    name = draw.choice(list(grammar.COMMANDS) * 4 + ["", "Backup", "backu", "backup ", "help", "-h"])
     known = {**grammar.JOB, **grammar.SET, **grammar.STREAM, **grammar.WORKERS}
     required, optional = grammar.COMMANDS.get(name, ({}, known))
     pairs = [(key, required[key]) for key in required if draw.random() < 0.95]
@@ -178,6 +178,8 @@ def hostile_words(store, draw):
             right = ended.status == 0 and out.startswith(f"version {common.label(version)} length {len(data)} next ") and err == ""
     elif command.name == "migrate":
         right = (ended.status, out, err) == (0, "migrate: 0 recipes\n", "")
+    elif command.name == "scrub":
+        right = ended.status == 0 and re.fullmatch(r"scrub: \d+ containers, 0 damaged\n", out) and err == ""
     else:
         line = out.rstrip("\n")
         if command.name == "backup":

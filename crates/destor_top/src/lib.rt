@@ -6,19 +6,20 @@ ghost use Rattle.std.specs.Prelude.{true, false, ◌≤◌, map, string_bytes};
 ghost use Rattle.store_model.specs.Ranges.{AreLimits};
 ghost use Rattle.store_model.specs.Run.{IsRun};
 ghost use Rattle.store_model.specs.World.{world};
-ghost use Rattle.command_runner.specs.Completes.{IsCompleteRun};
-ghost use Rattle.command_runner.specs.Unbuilt.{Unbuilt};
+ghost use Rattle.destor_top.specs.Reached.{Reached, IsCompleteRun};
 
 pub use command_runner::Ended;
-use command_runner::run_words;
+use command_runner::{ended_early, run_words};
 use keeper_store::KeeperStore;
+use script_words::read_words;
+use scrub_runner::{run_scrub, run_scrub_plain};
 use std::alloc::Global;
 use std::sync::Wait;
 use std::thread::{Scope, Threads};
 use std::time::Clock;
 use threaded_runner::run_threaded;
 use vault_traits::{Places, Shelf, Sink, Source};
-use vault_types::Limits;
+use vault_types::{Command, Limits};
 
 /// Runs the command that the words are, over the store on the shelf, with its data from `input` and to `out`; a script
 /// names places for its sources and outputs. What ends the run before its first line is told on `report`: `Usage` where
@@ -42,7 +43,7 @@ pub fn run_plain<S: Shelf, P: Places, I: Source + Send, O: Sink + Send, R: Sink>
     requires last_high { limits.now.last ≤ 4294967294 }
     requires script { 1 ≤ limits.now.script }
     requires script_high { limits.now.script ≤ 1048576 }
-    ensures run { IsRun true Unbuilt (map string_bytes words.now) limits.now
+    ensures run { IsRun true Reached (map string_bytes words.now) limits.now
         (world (S.told shelf) (P.told places.old) (I.told input) (O.told out) (R.told report.old))
         (world (S.told result.shelf) (P.told places.new)
         (I.told result.input) (O.told result.out) (R.told report.new))
@@ -53,9 +54,16 @@ pub fn run_plain<S: Shelf, P: Places, I: Source + Send, O: Sink + Send, R: Sink>
         (I.told result.input) (O.told result.out) (R.told report.new))
         result.answers.items result.fault }
 {
-    run_words::<S, KeeperStore<S>, P, I, O, R>(
-        alloc, words, limits, shelf, places, input, out, report,
-    )
+    let command = match read_words(alloc, words) {
+        Err(fault) => return ended_early(alloc, fault, shelf, input, out, report),
+        Ok(command) => command,
+    };
+    match command {
+        Command::Scrub { .. } => run_scrub_plain(alloc, shelf, input, out, report),
+        _ => run_words::<S, KeeperStore<S>, P, I, O, R>(
+            alloc, words, limits, shelf, places, input, out, report,
+        ),
+    }
 }
 
 /// Runs the command that the words are, as `run_plain` does; the streams of backups pass through stages in threads of the
@@ -87,7 +95,7 @@ where
     P::Reader: Drop + 's,
     P::Writer: Drop + 's,
     requires { AreLimits limits.now }
-    ensures run { IsRun false Unbuilt (map string_bytes words.now) limits.now
+    ensures run { IsRun false Reached (map string_bytes words.now) limits.now
         (world (S.told shelf) (P.told places.old) (I.told input) (O.told out) (R.told report.old))
         (world (S.told result.shelf) (P.told places.new)
         (I.told result.input) (O.told result.out) (R.told report.new))
@@ -98,7 +106,16 @@ where
         (I.told result.input) (O.told result.out) (R.told report.new))
         result.answers.items result.fault }
 {
-    run_threaded(
-        rt, alloc, scope, words, limits, shelf, places, input, out, report,
-    )
+    let command = match read_words(alloc, words) {
+        Err(fault) => return ended_early(alloc, fault, shelf, input, out, report),
+        Ok(command) => command,
+    };
+    match command {
+        Command::Scrub { workers } => {
+            run_scrub(&rt, alloc, scope, workers, shelf, input, out, report)
+        }
+        _ => run_threaded(
+            rt, alloc, scope, words, limits, shelf, places, input, out, report,
+        ),
+    }
 }

@@ -136,6 +136,21 @@ const TWO_VERSIONS_COME_BACK: &[Row] = &[
     },
 ];
 
+const A_SCRUB_FINDS_ALL_GOOD: &[Row] = &[
+    Row {
+        words: "scrub",
+        out: b"scrub: 0 containers, 0 damaged\n",
+        ..QUIET
+    },
+    FIRST,
+    SECOND,
+    Row {
+        words: "scrub --workers 8",
+        out: b"scrub: 2 containers, 0 damaged\n",
+        ..QUIET
+    },
+];
+
 /// Groups of rows within the standard limits.
 pub const GROUPS: &[&[Row]] = &[
     AN_EMPTY_STREAM_COMES_BACK,
@@ -143,6 +158,7 @@ pub const GROUPS: &[&[Row]] = &[
     THE_LATEST_VERSION_STAYS,
     A_RECIPE_IS_SHOWN,
     TWO_VERSIONS_COME_BACK,
+    A_SCRUB_FINDS_ALL_GOOD,
 ];
 
 /// Limits of three chunks, one version and scripts of eight bytes.

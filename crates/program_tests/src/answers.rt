@@ -168,7 +168,7 @@ const NO_COMMANDS: &[&str] = &[
     // These are commands, but the program does not have them yet.
     "backup --chunk fixed --size 4 --sample 1 --prefetch 1",
     "restore --version 1 --area 65536",
-    "scrub",
+    "scrub --workers 9",
 ];
 
 // Whether the words are refused before the shelf, whose first call fails, and the input are touched.

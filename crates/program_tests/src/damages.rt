@@ -142,6 +142,7 @@ const COMMANDS: &[(&str, &[u8])] = &[
     ("migrate", b""),
     ("batch", b"delete 1\nrestore 2 x\n"),
     ("fill --seed 1 --versions 1", b""),
+    ("scrub", b""),
 ];
 
 // Two versions, in a container each.

@@ -26,4 +26,6 @@ mod running;
 #[cfg(test)]
 mod scripts;
 #[cfg(test)]
+mod scrubs;
+#[cfg(test)]
 mod unsettled;

@@ -1,0 +1,5 @@
+pub mod Ascending
+pub mod Staying
+pub mod Readings
+pub mod Steps
+pub mod Turns

@@ -1,0 +1,3 @@
+pub mod Scrubbing
+pub mod Walking
+pub mod Standing

@@ -1,6 +1,6 @@
 """Each allocation of a run fails once: each line is done, or refused for want of memory and then leaves the versions as they
-were, and the next run does what it says. In threads another run may ask in another order, so a number stands for one of the
-allocations that come about there."""
+were, and the next run does what it says. The same of a backup in threads over a store in memory, by a test. In threads
+another run may ask in another order, so a number stands for one of the allocations that come about there."""
 
 import os
 import shutil
@@ -11,6 +11,8 @@ import common
 from scenarios import Maker, Work, after, lines_of, status_of
 
 REFUSED = "error 8: out of memory"
+TESTS = "crates/pipe_backup_tests/out/pipe_backup_tests_tests"
+TEST = "backups::a_backup_that_memory_failed_is_none"
 
 
 def library(case):
@@ -62,20 +64,36 @@ def outputs(work, what, ended):
             state = behind
 
 
-def failures_of(case, program, scenario, built):
-    work = Work(case, program, scenario)
-    count = os.path.join(case.room, "count")
-    tried = through = 0
-    while True:
-        number = tried + 1
-        with open(count, "wb") as file:
+class Failing:
+    """Runs in which an allocation is refused, and how many each asked for."""
+
+    def __init__(self, case, built):
+        self.built = built
+        self.count = os.path.join(case.room, "count")
+
+    def words(self, number):
+        """The words in front of a run whose allocation of that number is refused."""
+        with open(self.count, "wb") as file:
             file.write(bytes(8))
-        what = f"{scenario.name} where allocation {number} fails"
-        ended = work.run(["env", f"LD_PRELOAD={built}", f"FAIL_ALLOCATION={number}", f"COUNT_ALLOCATIONS={count}"])
-        with open(count, "rb") as file:
+        return ["env", f"LD_PRELOAD={self.built}", f"FAIL_ALLOCATION={number}", f"COUNT_ALLOCATIONS={self.count}"]
+
+    def asked(self):
+        """How many the last run asked for."""
+        with open(self.count, "rb") as file:
             asked = struct.unpack("<Q", file.read())[0]
         if asked == 0:
             raise common.Skipped("the program may not be given another library")
+        return asked
+
+
+def failures_of(case, program, scenario, failing):
+    work = Work(case, program, scenario)
+    tried = through = 0
+    while True:
+        number = tried + 1
+        what = f"{scenario.name} where allocation {number} fails"
+        ended = work.run(failing.words(number))
+        asked = failing.asked()
         states = states_behind(work, what, ended)
         outputs(work, what, ended)
         state = work.stands(what, states)
@@ -91,10 +109,34 @@ def failures_of(case, program, scenario, built):
     return tried
 
 
+def failures_of_the_test(case, failing):
+    """The test says itself what is wrong; where memory fails what is around the backups, it ends with an error."""
+    top = os.path.dirname(os.path.dirname(os.path.dirname(os.path.realpath(__file__))))
+    program = os.path.join(top, TESTS)
+    if not os.access(program, os.X_OK):
+        case.say(f"skipped: no program {TESTS}")
+        return 0
+    tried = through = around = 0
+    while True:
+        number = tried + 1
+        ended = common.run([*failing.words(number), program, TEST], case.room)
+        told = (ended.out + ended.err).decode(errors="replace")
+        is_around = ended.status == 101 and told.lstrip().startswith("error:")
+        case.holds(f"the test where allocation {number} fails", ended.status == 0 or is_around, told)
+        if failing.asked() < number:
+            case.same("the test where no allocation fails", ended.status, 0)
+            break
+        tried += 1
+        through += not is_around
+        around += is_around
+    case.say(f"{TEST}: {tried} allocations failed, {through} in the backups, {around} around them")
+    return tried
+
+
 def check(case):
-    built = library(case)
-    runs = 0
+    failing = Failing(case, library(case))
+    runs = failures_of_the_test(case, failing)
     for program in case.programs:
         for scenario in Maker(case, program, 0.2).all():
-            runs += failures_of(case, program, scenario, built)
+            runs += failures_of(case, program, scenario, failing)
     case.say(f"{runs} runs in which an allocation failed")

@@ -13,7 +13,9 @@ mod scripts;
 mod showing;
 mod store;
 
-pub use ending::{Ended, answer_from, ended_early, ended_on_out, one_answer, open_for_one};
+pub use ending::{
+    Ended, answer_from, ended_early, ended_on_out, ended_on_report, one_answer, open_for_one,
+};
 pub use filling::{ended_fill, script_and_places};
 pub use run::{run_command, run_words};
 pub use scripts::ended_lines;

@@ -30,10 +30,10 @@ fn run_to_reply<S: Shelf, O: Sink + Drop, R: Threads + Wait + Clock>(
     ensures alone { RunsAlone keeper.new running.new }
     ensures reply { running.new.replied ≡ result ∷ [] }
     ensures same { running.new ≡ record running.old {
-        got = running.new.got;
-        met = running.new.met;
-        sent = running.new.sent;
-        replied = running.new.replied;
+      got = running.new.got;
+      met = running.new.met;
+      sent = running.new.sent;
+      replied = running.new.replied;
     } }
 {
     let mut back_off = BackOff::new();

@@ -6,9 +6,7 @@ ghost use Rattle.store_model.specs.Courses.{RunsRestore};
 ghost use Rattle.store_model.specs.World.{world};
 ghost use Rattle.command_runner.specs.Going.{GoesOn};
 
-use command_runner::{
-    Ended, answer_from, ended_early, ended_on_report, one_answer, open_for_one,
-};
+use command_runner::{Ended, answer_from, ended_early, ended_on_report, one_answer, open_for_one};
 use keeper_store::KeeperStore;
 use piped_restore::restore_piped;
 use std::alloc::Global;

@@ -75,8 +75,8 @@ fn is_cut_off(alloc: Global, room: usize) -> Result<bool, Fail> {
     let input = MemSource::new(Vec::new(alloc), 1);
     let seen = run_with(alloc, "scrub", &STANDARD, shelf, &mut places, input, room)?;
     let fault = seen.fault == Some(Fault::WriteFault(1));
-    let text = b"container 1 absent\nscrub: 2 containers, 1 damaged\n";
-    let front = seen.out.as_slice() == &text[..room];
+    let text = b"container 1 absent\nscrub: 2 containers, 1 damaged\n".as_slice();
+    let front = seen.out.len() == room && text.starts_with(seen.out.as_slice());
     Ok(fault && front && seen.status == 5 && seen.report.is_empty())
 }
 

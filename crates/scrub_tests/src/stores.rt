@@ -1,5 +1,5 @@
 // Stores whose payloads are damaged.
-ghost use Rattle.std.specs.Prelude.{IfOk};
+ghost use Rattle.std.specs.Prelude.{◌≢◌, IfOk};
 ghost use Rattle.vault_types.specs.Tables.{IsTable};
 
 use container_store::encode_table;
@@ -22,14 +22,18 @@ pub enum Change {
     HasAnotherChunk,
 }
 
-pub fn payload_name(id: Id) -> Name {
+pub fn payload_name(id: Id) -> Name
+    ensures { result.kind ≢ Kind.Floor }
+{
     Name {
         kind: Kind::Payload,
         number: id,
     }
 }
 
-fn table_name(id: Id) -> Name {
+fn table_name(id: Id) -> Name
+    ensures { result.kind ≢ Kind.Floor }
+{
     Name {
         kind: Kind::Table,
         number: id,
@@ -45,9 +49,9 @@ pub fn payload_of(id: Id) -> [u8; 12] {
 }
 
 /// A shelf with a store of one version for each container, the ids of which are 1, 2 and so on.
-pub fn store_of(alloc: Global, containers: u64) -> Result<MemShelf, Fail> {
+pub fn store_of(alloc: Global, containers: u8) -> Result<MemShelf, Fail> {
     let mut store = started(alloc, MemShelf::new(alloc))?;
-    for id in 1..containers + 1 {
+    for id in 1..u64::from(containers) + 1 {
         let payload = payload_of(id);
         store.back_up(alloc, 0, b"", &[&payload])?;
     }

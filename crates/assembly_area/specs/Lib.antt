@@ -1,0 +1,5 @@
+pub mod Areas
+pub mod Assembly
+pub mod ByAreas
+pub mod Extents
+pub mod Filling

@@ -233,7 +233,7 @@ module _ (u : View) (number : ℕ) (spots : List Spot) (whole : Option Whole) (s
     copied_alone bytes more written = record {
       stays = alone_stays u (counted_up u.told.gets got) faults rise;
       later = later;
-      due = least;
+      least = least;
       gets = ap (counted_up u.told.gets) all_got;
       full = all_of (λ q. IsFull u number spots q.id) spots spot_full;
       taken = λ payloads given. subst (λ (ss : List Spot). Takes start.taken b.sink.taken (version_bytes payloads ss)) spots_are (written payloads (taken_of payloads given)).0;

@@ -130,7 +130,7 @@ module _ (u w : View) (before now : SinkTold) (s n : ℕ) (result : Result Answe
       record {
         leaves = leaves S other here;
         same = (stayed_here S other here).recipes;
-        loads = record { loads = done.loads; least = loads_of S other here (λ ids. IsLeast (requests ids) 16 done.loads) done.due; gets = done.gets };
+        loads = record { loads = done.loads; least = loads_of S other here (λ ids. IsLeast (requests ids) 16 done.loads) done.least; gets = done.gets };
       }
 
   -- the sum of what was taken is that of the version

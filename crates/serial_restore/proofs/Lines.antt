@@ -49,9 +49,9 @@ use Rattle.vault_types.specs.declared.Pending.TheVariants as pending
 use Rattle.keeper_core.specs.Keeping.{IsStateWith, IsKnownStray}
 use Rattle.keeper_core.proofs.BetweenLines.{changed_of, images_of}
 use Rattle.serial_restore.specs.Going.{IsAtMostLeast, HasTakenFront}
-use Rattle.serial_restore.specs.Restoring.{IsRestoreFault, IsBadPayloadOf, IsWrongSumOf, IsLeft, Loads, LeastLoads, AtMostLeastLoads, HasGone, HasGoneBy, WhereTold}
+use Rattle.serial_restore.specs.Restoring.{IsRestoreFault, IsBadPayloadOf, IsWrongSumOf, IsLeft, HasGone}
 use Rattle.serial_restore.proofs.Damages.{undamaged, shown}
-use Rattle.serial_restore.proofs.Goings.{not_kept_gone_by, none_at_most_least}
+use Rattle.serial_restore.proofs.Goings.{not_kept_gone}
 
 both : {a b : Bool} → a ≡ true → b ≡ true → (a && b) ≡ true
 both h j = rw (h, j) refl
@@ -191,7 +191,7 @@ module _ (v x : View) (ps : List Pin) (before now : SinkTold) (s n slots : ℕ) 
       done_goes : (a : Answer) → HasGone v x before now s n slots (Ok a) → Goes x K.state K.other a
       done_goes a gone =
           let is = gone.ok told K k keeps there in
-          let least = subst (λ (ids : List ℕ). IsLeast (requests ids) slots is.loads) (sym rows_are) is.due in
+          let least = subst (λ (ids : List ℕ). IsLeast (requests ids) slots is.loads) (sym rows_are) is.least in
           let done : IsDone (λ _. []) K.state (Restore s n [] slots) (Restored s n (length (bytes_of K.state s n)) is.loads) = (kept, is.loads, least, refl) in
           subst (λ (b : Answer). Goes x K.state K.other b) (sym is.is) (
             K.other,
@@ -255,12 +255,12 @@ module _ (v x : View) (ps : List Pin) (before now : SinkTold) (s n slots : ℕ) 
 
 -- ---- what is written
 
-module _ (Due Few : Loads) (v x : View) (before now : SinkTold) (s n : ℕ) (K : Core) (keeps : Keeps v K) (told : IsSome v.told.blobs) where
+module _ (v x : View) (before now : SinkTold) (s n slots : ℕ) (K : Core) (keeps : Keeps v K) (told : IsSome v.told.blobs) where
   refused_written : (f : Fault) → HasTakenFront before now (bytes_of K.state s n) → IsShortAt (bytes_of K.state s n) before.taken now.taken f → HasWritten K.state s n (Refused f) before.taken now.taken
   refused_written (fault.Damaged kind.Recipe i (why.Whole want found)) front all = (bytes_of K.state s n, ([], append-nil (bytes_of K.state s n)), all, λ done. refl)
   refused_written other front all = (front.front, (front.rest, front.parts), front.taken, λ done. absurd (let e : false ≡ true = done in cc))
 
-  kept_written : (k : KeptVersion) → version_of K.state s n ≡ Some k → (result : Result Answer Fault) → HasGoneBy Due Few v x before now s n result → HasWritten K.state s n (answer_of result) before.taken now.taken
+  kept_written : (k : KeptVersion) → version_of K.state s n ≡ Some k → (result : Result Answer Fault) → HasGone v x before now s n slots result → HasWritten K.state s n (answer_of result) before.taken now.taken
   kept_written k there (Ok a) gone = (bytes_of K.state s n, ([], append-nil (bytes_of K.state s n)), (gone.ok told K k keeps there).taken, λ done. refl)
   kept_written k there (Err f) gone = refused_written f (gone.err told K k keeps there).front (gone.short told K k keeps there)
 
@@ -277,94 +277,72 @@ same_told None b one two is = absurd (let e : false ≡ true = one in cc)
 same_told (Some m) None one two is = absurd (let e : false ≡ true = two in cc)
 same_told (Some m) (Some n) one two is = ap (λ (c : Blobs). Some c) (same_blobs n m is)
 
--- of a version that is not kept nothing is done
-abbrev pub IsExactOf : View → ℕ → ℕ → Result Answer Fault → Type 0
-IsExactOf v s n result = (K : Core) → Keeps v K → is_kept K.state s n ≡ false → result ≡ Err (fault.NotKept s n (floor_of K.state s) (latest_of K.state s))
-
-abbrev pub IsStillOf : View → View → SinkTold → SinkTold → ℕ → ℕ → Type 0
-IsStillOf v x before now s n = (K : Core) → Keeps v K → is_kept K.state s n ≡ false → (x ≡ v) × (now ≡ before)
-
--- what holds of a restore, however many loads it has
-module _ (Due Few : Loads) (v x : View) (before now : SinkTold) (s n : ℕ) (result : Result Answer Fault) (core : HasCore v) (exact : IsExactOf v s n result) (still : IsStillOf v x before now s n) (gone : HasGoneBy Due Few v x before now s n result) where
-  pub done_of : IfOk result (λ a. is_refused a ≡ false)
-  done_of = at result gone.kind
-    where
-      at : (r : Result Answer Fault) → IfOk r (λ a. (bytes loads : ℕ) × (a ≡ Restored s n bytes loads)) → IfOk r (λ a. is_refused a ≡ false)
-      at (Ok a) is = ap (λ (b : Answer). is_refused b) is.2
-      at (Err f) is = tt
-
-  pub fitting_of : (slots : ℕ) (limits : Limits) → IsTrue (fits limits (Restore s n [] slots) (answer_of result))
-  fitting_of slots limits = at result gone.kind gone.cause
-    where
-      at : (r : Result Answer Fault) → IfOk r (λ a. (bytes loads : ℕ) × (a ≡ Restored s n bytes loads)) → IfErr r (λ f. (K : Core) → Keeps v K → IsRestoreFault v x before now K.state s n f) → IsTrue (fits limits (Restore s n [] slots) (answer_of r))
-      at (Ok a) is cause = kind_done limits s n slots is.0 is.1 a is.2
-      at (Err f) is cause = kind_err v x before now core.0.state s n slots limits f (cause core.0 core.1)
-
-  pub rising_of : CausesRise (counts_of_sink v.told before) (counts_of_sink x.told now) (answer_of result ∷ [])
-  rising_of = at result gone.kind gone.cause
-    where
-      at : (r : Result Answer Fault) → IfOk r (λ a. (bytes loads : ℕ) × (a ≡ Restored s n bytes loads)) → IfErr r (λ f. (K : Core) → Keeps v K → IsRestoreFault v x before now K.state s n f)
-          → CausesRise (counts_of_sink v.told before) (counts_of_sink x.told now) (answer_of r ∷ [])
-      at (Ok a) is cause = causes_done v x before now core.0.state s n 1 gone.left.later gone.sink is.0 is.1 a is.2
-      at (Err f) is cause = causes_err v x before now core.0.state s n 1 gone.left.later gone.sink f (cause core.0 core.1)
-
-  module _ (K : Core) (keeps : Keeps v K) (told : IsSome v.told.blobs) where
-    blobs_in : (b : Bool) → is_kept K.state s n ≡ b → x.told.blobs ≡ v.told.blobs
-    blobs_in true kept =
-        let k = version_there K.state s n keeps.core.state kept in
-        same_told v.told.blobs x.told.blobs told (gone.left.tells told) ((gone.left.state K keeps).blobs told (subst (λ (o : Option KeptVersion). IsSome o) (sym k.1) refl))
-    blobs_in false kept = ap (λ (w : View). w.told.blobs) (still K keeps kept).0
-
-    written_in : (b : Bool) → is_kept K.state s n ≡ b → HasWritten K.state s n (answer_of result) before.taken now.taken
-    written_in true kept =
-        let k = version_there K.state s n keeps.core.state kept in
-        kept_written Due Few v x before now s n K keeps told k.0 k.1 result gone
-    written_in false kept = not_kept_written Due Few v x before now s n K keeps told result (fault.NotKept s n (floor_of K.state s) (latest_of K.state s)) refl (exact K keeps kept) (still K keeps kept).1
-
-    short_in : (b : Bool) → is_kept K.state s n ≡ b → IfErr result (IsShortAt (bytes_of K.state s n) before.taken now.taken)
-    short_in true kept =
-        let k = version_there K.state s n keeps.core.state kept in
-        at result gone.short k.0 k.1
-      where
-        at : (r : Result Answer Fault) → IfErr r (λ f. WhereTold v s n (λ J j. IsShortAt (bytes_of J.state s n) before.taken now.taken f)) → (k : KeptVersion) → version_of K.state s n ≡ Some k → IfErr r (IsShortAt (bytes_of K.state s n) before.taken now.taken)
-        at (Ok a) short k there = tt
-        at (Err f) short k there = short told K k keeps there
-    short_in false kept = subst (λ (r : Result Answer Fault). IfErr r (IsShortAt (bytes_of K.state s n) before.taken now.taken)) (sym (exact K keeps kept)) tt
-
-  module _ (ps : List Pin) (S : State) (other : Option Change) (here : IsStateWith v ps S other) where
-    pub blobs_of : x.told.blobs ≡ v.told.blobs
-    blobs_of = blobs_in here.core here.keeps here.told (is_kept here.core.state s n) refl
-
-    pub written_of : HasWritten S s n (answer_of result) before.taken now.taken
-    written_of = subst (λ (T : State). HasWritten T s n (answer_of result) before.taken now.taken) here.state (written_in here.core here.keeps here.told (is_kept here.core.state s n) refl)
-
-    pub short_of : IfErr result (IsShortAt (bytes_of S s n) before.taken now.taken)
-    short_of = subst (λ (T : State). IfErr result (IsShortAt (bytes_of T s n) before.taken now.taken)) here.state (short_in here.core here.keeps here.told (is_kept here.core.state s n) refl)
-
-pub restores : (v x : View) (before now : SinkTold) (s n slots : ℕ) (result : Result Answer Fault) → HasCore v → s < 256 → IsExactOf v s n result → IsStillOf v x before now s n
+pub restores : (v x : View) (before now : SinkTold) (s n slots : ℕ) (result : Result Answer Fault) → HasCore v → s < 256
+    → ((K : Core) → Keeps v K → is_kept K.state s n ≡ false → result ≡ Err (fault.NotKept s n (floor_of K.state s) (latest_of K.state s)))
+    → ((K : Core) → Keeps v K → is_kept K.state s n ≡ false → (x ≡ v) × (now ≡ before))
     → HasGone v x before now s n slots result → (ps : List Pin) → RestoresLine (IsStateWith v ps) (IsStateWith x ps) (IsKnownStray v) (IsKnownStray x) s n slots v.told x.told before now result
 restores v x before now s n slots result core range exact still gone ps = record {
-  done = done_of (LeastLoads slots) (AtMostLeastLoads slots) v x before now s n result core exact still gone;
-  kind = fitting_of (LeastLoads slots) (AtMostLeastLoads slots) v x before now s n result core exact still gone slots;
-  causes = rising_of (LeastLoads slots) (AtMostLeastLoads slots) v x before now s n result core exact still gone;
+  done = done result gone.kind;
+  kind = λ limits. fitting limits result gone.kind gone.cause;
+  causes = rising result gone.kind gone.cause;
   steps = λ S other limits here. goes_from v x ps before now s n slots limits S other (answer_of result) here (steps_in limits here.core here.keeps here.job here.pins here.told (changed_of v S other here) (images_of v S other here) (is_kept here.core.state s n) refl);
-  blobs = blobs_of (LeastLoads slots) (AtMostLeastLoads slots) v x before now s n result core exact still gone ps;
-  written = written_of (LeastLoads slots) (AtMostLeastLoads slots) v x before now s n result core exact still gone ps;
-  short = short_of (LeastLoads slots) (AtMostLeastLoads slots) v x before now s n result core exact still gone ps;
+  blobs = λ S other here. blobs_in here.core here.keeps here.told (is_kept here.core.state s n) refl;
+  written = λ S other here. subst (λ (T : State). HasWritten T s n (answer_of result) before.taken now.taken) here.state (written_in here.core here.keeps here.told (is_kept here.core.state s n) refl);
+  short = λ S other here. subst (λ (T : State). IfErr result (IsShortAt (bytes_of T s n) before.taken now.taken)) here.state (short_in here.core here.keeps here.told (is_kept here.core.state s n) refl);
 }
   where
+    done : (r : Result Answer Fault) → IfOk r (λ a. (bytes loads : ℕ) × (a ≡ Restored s n bytes loads)) → IfOk r (λ a. is_refused a ≡ false)
+    done (Ok a) is = ap (λ (b : Answer). is_refused b) is.2
+    done (Err f) is = tt
+
+    fitting : (limits : Limits) (r : Result Answer Fault) → IfOk r (λ a. (bytes loads : ℕ) × (a ≡ Restored s n bytes loads)) → IfErr r (λ f. (K : Core) → Keeps v K → IsRestoreFault v x before now K.state s n f) → IsTrue (fits limits (Restore s n [] slots) (answer_of r))
+    fitting limits (Ok a) is cause = kind_done limits s n slots is.0 is.1 a is.2
+    fitting limits (Err f) is cause = kind_err v x before now core.0.state s n slots limits f (cause core.0 core.1)
+
+    rising : (r : Result Answer Fault) → IfOk r (λ a. (bytes loads : ℕ) × (a ≡ Restored s n bytes loads)) → IfErr r (λ f. (K : Core) → Keeps v K → IsRestoreFault v x before now K.state s n f)
+        → CausesRise (counts_of_sink v.told before) (counts_of_sink x.told now) (answer_of r ∷ [])
+    rising (Ok a) is cause = causes_done v x before now core.0.state s n slots gone.left.later gone.sink is.0 is.1 a is.2
+    rising (Err f) is cause = causes_err v x before now core.0.state s n slots gone.left.later gone.sink f (cause core.0 core.1)
+
     steps_in : (limits : Limits) (K : Core) → Keeps v K → K.job ≡ None → K.pins ≡ ps → IsSome v.told.blobs → IfSome K.other (λ h. IsValid h.state) → (v.pending ≡ pending.Not → LeavesNowIfTold v.told.history (IsNear K.state K.other)) → (b : Bool) → is_kept K.state s n ≡ b → Goes v x ps before now s n slots limits x K.state K.other (answer_of result)
     steps_in limits K keeps no_job pinned told changed images true kept =
         let k = version_there K.state s n keeps.core.state kept in
         kept_goes v x ps before now s n slots limits K keeps no_job pinned told changed images k.0 k.1 kept (let sets = keeps.core.state.sets in omega (arith, range, sets)) result gone
     steps_in limits K keeps no_job pinned told changed images false kept = not_kept_goes v x ps before now s n slots limits K keeps no_job pinned told changed images result kept (exact K keeps kept) (still K keeps kept).0
 
+    blobs_in : (K : Core) → Keeps v K → IsSome v.told.blobs → (b : Bool) → is_kept K.state s n ≡ b → x.told.blobs ≡ v.told.blobs
+    blobs_in K keeps told true kept =
+        let k = version_there K.state s n keeps.core.state kept in
+        same_told v.told.blobs x.told.blobs told (gone.left.tells told) ((gone.left.state K keeps).blobs told (subst (λ (o : Option KeptVersion). IsSome o) (sym k.1) refl))
+    blobs_in K keeps told false kept = ap (λ (w : View). w.told.blobs) (still K keeps kept).0
+
+    written_in : (K : Core) → Keeps v K → IsSome v.told.blobs → (b : Bool) → is_kept K.state s n ≡ b → HasWritten K.state s n (answer_of result) before.taken now.taken
+    written_in K keeps told true kept =
+        let k = version_there K.state s n keeps.core.state kept in
+        kept_written v x before now s n slots K keeps told k.0 k.1 result gone
+    written_in K keeps told false kept = not_kept_written v x before now s n slots K keeps told result (fault.NotKept s n (floor_of K.state s) (latest_of K.state s)) refl (exact K keeps kept) (still K keeps kept).1
+
+    short_at : (K : Core) → (IsSome v.told.blobs → (k : KeptVersion) → version_of K.state s n ≡ Some k → IfErr result (IsShortAt (bytes_of K.state s n) before.taken now.taken)) → IsSome v.told.blobs → (b : Bool) → is_kept K.state s n ≡ b → Keeps v K
+        → IfErr result (IsShortAt (bytes_of K.state s n) before.taken now.taken)
+    short_at K of_kept told true kept keeps =
+        let k = version_there K.state s n keeps.core.state kept in
+        of_kept told k.0 k.1
+    short_at K of_kept told false kept keeps = subst (λ (r : Result Answer Fault). IfErr r (IsShortAt (bytes_of K.state s n) before.taken now.taken)) (sym (exact K keeps kept)) tt
+
+    short_in : (K : Core) → Keeps v K → IsSome v.told.blobs → (b : Bool) → is_kept K.state s n ≡ b → IfErr result (IsShortAt (bytes_of K.state s n) before.taken now.taken)
+    short_in K keeps told b kept = short_at K (λ tells k there. of_result result gone.short tells k there) told b kept keeps
+      where
+        of_result : (r : Result Answer Fault) → IfErr r (λ f. (IsSome v.told.blobs) → (J : Core) (k : KeptVersion) → Keeps v J → version_of J.state s n ≡ Some k → IsShortAt (bytes_of J.state s n) before.taken now.taken f) → IsSome v.told.blobs → (k : KeptVersion) → version_of K.state s n ≡ Some k
+            → IfErr r (IsShortAt (bytes_of K.state s n) before.taken now.taken)
+        of_result (Ok a) short tells k there = tt
+        of_result (Err f) short tells k there = short tells K k keeps there
+
 -- the two ends of a restore
 
 pub not_kept_line : (v : View) (told : SinkTold) (s n slots floor latest : ℕ) → HasCore v → s < 256 → ((K : Core) → Keeps v K → false ≡ is_kept K.state s n) → ((K : Core) → Keeps v K → floor ≡ floor_of K.state s) → ((K : Core) → Keeps v K → latest ≡ latest_of K.state s)
     → (ps : List Pin) → RestoresLine (IsStateWith v ps) (IsStateWith v ps) (IsKnownStray v) (IsKnownStray v) s n slots v.told v.told told told (Err (fault.NotKept s n floor latest))
 not_kept_line v told s n slots floor latest core range kept low high =
-    let gone = not_kept_gone_by (LeastLoads slots) (AtMostLeastLoads slots) (none_at_most_least slots) v told s n floor latest kept low high in
+    let gone = not_kept_gone v told s n slots floor latest kept low high in
     restores v v told told s n slots (Err (fault.NotKept s n floor latest)) core range (λ K keeps other. ap (λ (f : Fault). Err f) (gone.cause K keeps).1) (λ K keeps other. (refl, refl)) gone
 
 pub kept_line : (v x : View) (before now : SinkTold) (s n slots : ℕ) (result : Result Answer Fault) → HasCore v → s < 256 → ((K : Core) → Keeps v K → true ≡ is_kept K.state s n) → HasGone v x before now s n slots result

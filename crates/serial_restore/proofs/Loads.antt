@@ -71,7 +71,7 @@ stays_then u v w a b = record {
 pub pinned_stays : (v w : View) (number : ℕ) (spots : List Spot) (K : Core) → Stays v w → HasPinned v number spots K → HasPinned w number spots K
 pinned_stays v w number spots K stays pinned = record { keeps = stays.keeps K pinned.keeps; listed = pinned.listed }
 
-pub given_stays : (v w : View) (number : ℕ) (spots : List Spot) (payloads : ℕ → List ℕ) → Stays v w → AreGiven v number spots payloads → AreGiven w number spots payloads
+given_stays : (v w : View) (number : ℕ) (spots : List Spot) (payloads : ℕ → List ℕ) → Stays v w → AreGiven v number spots payloads → AreGiven w number spots payloads
 given_stays v w number spots payloads stays given = record {
   tells = subst (λ (b : Option Blobs). IsSome b) (sym stays.blobs) given.tells;
   core = given.core;
@@ -79,7 +79,7 @@ given_stays v w number spots payloads stays given = record {
   are = given.are;
 }
 
-pub full_stays : (v w : View) (number : ℕ) (spots : List Spot) (id : ℕ) → Stays v w → IsFull w number spots id → IsFull v number spots id
+full_stays : (v w : View) (number : ℕ) (spots : List Spot) (id : ℕ) → Stays v w → IsFull w number spots id → IsFull v number spots id
 full_stays v w number spots id stays full tells K c pinned lists =
     full (subst (λ (b : Option Blobs). IsSome b) (sym stays.blobs) tells) K c (pinned_stays v w number spots K stays pinned) lists
 
@@ -93,31 +93,31 @@ listed_at pins number spots id all h =
 -- faults
 
 module _ (v w : View) (before now : SinkTold) (pins : List Pin) (number : ℕ) (whole : Option Whole) where
-  pub load_fault : (id : ℕ) (c : Container) → Lists pins number id c → (f : Fault) → IsCause v.told.faults w.told.faults (IsPayloadDamage v.told.blobs c.table) f → IsCopyFault v w before now pins number whole f
+  load_fault : (id : ℕ) (c : Container) → Lists pins number id c → (f : Fault) → IsCause v.told.faults w.told.faults (IsPayloadDamage v.told.blobs c.table) f → IsCopyFault v w before now pins number whole f
   load_fault id c lists (fault.StoreFault n) h = h
   load_fault id c lists (fault.Damaged k n y) h = inr (id, c, lists, h)
   load_fault id c lists fault.Memory h = tt
   load_fault id c lists other h = absurd h
 
-  pub give_fault : (f : Fault) → copying.IsOutputFault whole before now f → IsCopyFault v w before now pins number whole f
+  give_fault : (f : Fault) → copying.IsOutputFault whole before now f → IsCopyFault v w before now pins number whole f
   give_fault (fault.WriteFault n) h = h
   give_fault (fault.Damaged kind.Recipe n (why.Whole want found)) h = inl h
   give_fault other h = absurd h
 
-pub load_found : (bytes : List ℕ) (a b : ℕ) (told : Option Blobs) (c : Container) (f : Fault) → IsCause a b (IsPayloadDamage told c.table) f → IsFoundOf bytes f
+load_found : (bytes : List ℕ) (a b : ℕ) (told : Option Blobs) (c : Container) (f : Fault) → IsCause a b (IsPayloadDamage told c.table) f → IsFoundOf bytes f
 load_found bytes a b told c (fault.Damaged kind.Recipe n (why.Whole want found)) h = absurd h
 load_found bytes a b told c other h = tt
 
-pub taken_found : (bytes : List ℕ) (before now : SinkTold) (f : Fault) → IsTakenAt bytes before now f → IsFoundOf bytes f
+taken_found : (bytes : List ℕ) (before now : SinkTold) (f : Fault) → IsTakenAt bytes before now f → IsFoundOf bytes f
 taken_found bytes before now (fault.Damaged kind.Recipe n (why.Whole want found)) h = h.0
 taken_found bytes before now other h = tt
 
-pub load_short : (bytes : List ℕ) (before now : Option (List ℕ)) (a b : ℕ) (told : Option Blobs) (c : Container) (f : Fault) → IsCause a b (IsPayloadDamage told c.table) f → IsShortAt bytes before now f
+load_short : (bytes : List ℕ) (before now : Option (List ℕ)) (a b : ℕ) (told : Option Blobs) (c : Container) (f : Fault) → IsCause a b (IsPayloadDamage told c.table) f → IsShortAt bytes before now f
 load_short bytes before now a b told c (fault.WriteFault n) h = absurd h
 load_short bytes before now a b told c (fault.Damaged kind.Recipe n (why.Whole want found)) h = absurd h
 load_short bytes before now a b told c other h = tt
 
-pub taken_short : (bytes : List ℕ) (before now : SinkTold) (f : Fault) → IsTakenAt bytes before now f → IsShortAt bytes before.taken now.taken f
+taken_short : (bytes : List ℕ) (before now : SinkTold) (f : Fault) → IsTakenAt bytes before now f → IsShortAt bytes before.taken now.taken f
 taken_short bytes before now (fault.WriteFault n) h =
     let parts : length (h.0 ++ h.1) ≡ length bytes = ap length h.2 in
     let sum : length (h.0 ++ h.1) ≡ length h.0 + length h.1 = length-append h.0 h.1 in
@@ -126,7 +126,7 @@ taken_short bytes before now (fault.WriteFault n) h =
 taken_short bytes before now (fault.Damaged kind.Recipe n (why.Whole want found)) h = h.1
 taken_short bytes before now other h = tt
 
-pub taken_front : (bytes : List ℕ) (before now : SinkTold) (f : Fault) → IsTakenAt bytes before now f → HasTakenFront before now bytes
+taken_front : (bytes : List ℕ) (before now : SinkTold) (f : Fault) → IsTakenAt bytes before now f → HasTakenFront before now bytes
 taken_front bytes before now (fault.WriteFault n) h = record { front = h.0; rest = h.1; parts = h.2; taken = h.4 }
 taken_front bytes before now (fault.Damaged k n (why.Whole want found)) h = record { front = bytes; rest = []; parts = simp append-nil; taken = h.1 }
 taken_front bytes before now other h = absurd h
@@ -135,7 +135,7 @@ taken_front bytes before now other h = absurd h
 pub rose_from : (old before now : ℕ) → old ≤ before → Rose before now → Rose old now
 rose_from old before now later rose = grind arith
 
-pub later_fault : (u v w : View) (before mid now : SinkTold) (pins : List Pin) (number : ℕ) (one two : Option Whole) → Stays u v → before.faults ≤ mid.faults → two ≡ one → (f : Fault) → IsCopyFault v w mid now pins number two f → IsCopyFault u w before now pins number one f
+later_fault : (u v w : View) (before mid now : SinkTold) (pins : List Pin) (number : ℕ) (one two : Option Whole) → Stays u v → before.faults ≤ mid.faults → two ≡ one → (f : Fault) → IsCopyFault v w mid now pins number two f → IsCopyFault u w before now pins number one f
 later_fault u v w before mid now pins number one two stays later same (fault.StoreFault n) h = (h.0, rose_from u.told.faults v.told.faults w.told.faults stays.later h.1)
 later_fault u v w before mid now pins number one two stays later same (fault.WriteFault n) h = (h.0, rose_from before.faults mid.faults now.faults later h.1)
 later_fault u v w before mid now pins number one two stays later same (fault.Damaged k n y) h = ⊎_elim
@@ -267,10 +267,10 @@ module _ (v w : View) (number id : ℕ) (s : Copying) (next : wanted s ≡ Some 
 
 -- some loads
 
-pub counted_next : (g n m a b : ℕ) → a ≡ counted_up g n → b ≡ counted a → m ≡ n + 1 → b ≡ counted_up g m
+counted_next : (g n m a b : ℕ) → a ≡ counted_up g n → b ≡ counted a → m ≡ n + 1 → b ≡ counted_up g m
 counted_next g n m a b was is more = is ∙ ap counted was ∙ ap (counted_up g) (sym (more ∙ add-one n))
 
-pub no_spots : (spots : List Spot) → length spots ≡ 0 → spots ≡ []
+no_spots : (spots : List Spot) → length spots ≡ 0 → spots ≡ []
 no_spots [] none = refl
 no_spots (q ∷ spots) none = absurd (let e : suc (length spots) ≡ 0 = none in omega (arith, e))
 
@@ -398,7 +398,7 @@ module _ (v : View) (number : ℕ) (before : SinkTold) (spots : List Spot) (whol
         record {
           stays = done.stays;
           later = done.later;
-          due = least;
+          least = least;
           gets = done.gets ∙ ap (counted_up v.told.gets) (sym (all_loads (requests (map (λ q. q.id) spots)) slots n steps done.done done.rest least count (done.parts ∙ are) alone));
           full = all_of (λ q. IsFull v number spots q.id) spots (λ q there.
               subst (λ (ss : List Spot). IsFull v number ss q.id) same

@@ -33,12 +33,12 @@ use Rattle.state_laws.proofs.Members.{filter_contains, filter_within, first_or_r
 use Rattle.keeper_core.specs.Calls.{Lists, HasListed, IsPinned, IsWholeOf}
 use Rattle.restore_assembler.specs.Copying.{version_bytes}
 use Rattle.store_model.specs.Calls.{IsShortAt}
-use Rattle.serial_restore.specs.Going.{HasPinned, ArePayloads, AreGiven, IsFull, HasSum, IsSummed, IsFoundOf, HasTakenFront, IsCopied, IsCopiedBy, IsRestoreStopped, IsAtMostLeast}
-use Rattle.serial_restore.specs.Restoring.{whole_of, IsRestored, IsRestoredBy, IsCut, IsCutBy, LeastLoads, AtMostLeastLoads}
+use Rattle.serial_restore.specs.Going.{HasPinned, ArePayloads, AreGiven, IsFull, HasSum, IsSummed, IsFoundOf, HasTakenFront, IsCopied, IsRestoreStopped, IsAtMostLeast}
+use Rattle.serial_restore.specs.Restoring.{whole_of, IsRestored, IsCut}
 use Rattle.serial_restore.proofs.Chunks.{fitting, payload_at, fitting_whole, spots_bytes, rows_len, HasWhole}
 use Rattle.serial_restore.proofs.Restores.{pins_taken}
 
-pub ids_of_spots : (containers : List Container) (rows : List Row) → map (λ q. q.id) (map (spot_of containers) rows) ≡ map (λ r. r.id) rows
+ids_of_spots : (containers : List Container) (rows : List Row) → map (λ q. q.id) (map (spot_of containers) rows) ≡ map (λ r. r.id) rows
 ids_of_spots containers [] = refl
 ids_of_spots containers (r ∷ rows) = ap (λ (ids : List ℕ). r.id ∷ ids) (ids_of_spots containers rows)
 
@@ -132,35 +132,22 @@ module _ (v : View) (K : Core) (keeps : Keeps v K) (s n no : ℕ) (k : KeptVersi
       short_in whole IsFew w before now f stopped = subst (λ (bytes : List ℕ). IsShortAt bytes before.taken now.taken f) copied_bytes (stopped.short (payload_at K.state.containers) payloads_given)
 
       -- what is taken, with the gets of the version's pin and release
-      module _ (w x : View) (before now : SinkTold) (gets_before : u.told.gets ≡ v.told.gets) (gets_behind : x.told.gets ≡ w.told.gets) where
-        pub restored_by : (IsDue IsDueOf : ℕ → Type 0) → ((m : ℕ) → IsDue m → IsDueOf m) → s < length K.state.datasets → IsSome v.told.blobs → IsWholeOf v.told.blobs s n k sum → (m : ℕ) (answer : Answer) → answer ≡ Restored s n total m
-            → IsCopiedBy u w no before now spots (option_map (whole_of s n) sum) IsDue m → IsRestoredBy v x before now K s n k IsDueOf answer
-        restored_by IsDue IsDueOf due below told is_whole m answer is copied = record {
+      module _ (w x : View) (before now : SinkTold) (slots : ℕ) (gets_before : u.told.gets ≡ v.told.gets) (gets_behind : x.told.gets ≡ w.told.gets) where
+        pub restored : s < length K.state.datasets → IsSome v.told.blobs → IsWholeOf v.told.blobs s n k sum → (m : ℕ) (answer : Answer) → answer ≡ Restored s n total m
+            → IsCopied u w no before now spots (option_map (whole_of s n) sum) slots m → IsRestored v x before now K s n k slots answer
+        restored below told is_whole m answer is copied = record {
           loads = m;
-          due = due m copied.due;
+          least = subst (λ (ids : List ℕ). IsLeast (requests ids) slots m) ids_are copied.least;
           gets = gets_behind ∙ copied.gets ∙ ap (λ (g : ℕ). counted_up g m) gets_before;
           taken = subst (λ (bytes : List ℕ). Takes before.taken now.taken bytes) copied_bytes (copied.taken (payload_at K.state.containers) payloads_given);
           sum = sum_is below told is_whole copied.sum;
           is = is ∙ ap (λ (l : ℕ). Restored s n l m) (length_is copied.full);
         }
 
-        pub cut_by : (IsFew IsFewOf : ℕ → Type 0) → ((m : ℕ) → IsFew m → IsFewOf m) → (whole : Option Whole) (f : Fault) → IsRestoreStopped u w no before now spots whole IsFew f → IsCutBy v x before now K s n IsFewOf
-        cut_by IsFew IsFewOf few whole f stopped = record {
+        pub cut : (whole : Option Whole) (f : Fault) → IsRestoreStopped u w no before now spots whole (IsAtMostLeast (requests (map (λ q. q.id) spots)) slots) f → IsCut v x before now K s n k slots
+        cut whole f stopped = record {
           loads = stopped.loads;
-          few = few stopped.loads stopped.few;
+          few = subst (λ (ids : List ℕ). IsAtMostLeast (requests ids) slots stopped.loads) ids_are stopped.few;
           gets = gets_behind ∙ stopped.gets ∙ ap (λ (g : ℕ). counted_up g stopped.loads) gets_before;
           front = subst (λ (bytes : List ℕ). HasTakenFront before now bytes) copied_bytes (stopped.front (payload_at K.state.containers) payloads_given);
         }
-
-      -- so with the fewest loads
-      module _ (w x : View) (before now : SinkTold) (slots : ℕ) (gets_before : u.told.gets ≡ v.told.gets) (gets_behind : x.told.gets ≡ w.told.gets) where
-        pub restored : s < length K.state.datasets → IsSome v.told.blobs → IsWholeOf v.told.blobs s n k sum → (m : ℕ) (answer : Answer) → answer ≡ Restored s n total m
-            → IsCopied u w no before now spots (option_map (whole_of s n) sum) slots m → IsRestored v x before now K s n k slots answer
-        restored =
-            restored_by w x before now gets_before gets_behind (IsLeast (requests (map (λ q. q.id) spots)) slots) (LeastLoads slots K.state k)
-            (λ m least. subst (λ (ids : List ℕ). IsLeast (requests ids) slots m) ids_are least)
-
-        pub cut : (whole : Option Whole) (f : Fault) → IsRestoreStopped u w no before now spots whole (IsAtMostLeast (requests (map (λ q. q.id) spots)) slots) f → IsCut v x before now K s n k slots
-        cut =
-            cut_by w x before now gets_before gets_behind (IsAtMostLeast (requests (map (λ q. q.id) spots)) slots) (AtMostLeastLoads slots K.state k)
-            (λ m few. subst (λ (ids : List ℕ). IsAtMostLeast (requests ids) slots m) ids_are few)

@@ -174,23 +174,18 @@ pub record HasDone (v w : View) (number : ℕ) (before now : SinkTold) (s : Copy
       → Takes before.taken now.taken (version_bytes payloads s.spots)
   pub sum : (s.spots ≡ []) ⊎ IsSummed v number s.spots s.whole
 
--- all bytes of a version with these spots are written, with as many loads as are due, and where
--- there are any they have the sum that they should
-pub record IsCopiedBy (v w : View) (number : ℕ) (before now : SinkTold) (spots : List Spot)
-    (whole : Option Whole) (IsDue : ℕ → Type 0) (n : ℕ) : Type 0 where
+-- all bytes of a version with these spots are written, with the fewest loads, and where there are
+-- any they have the sum that they should
+pub record IsCopied (v w : View) (number : ℕ) (before now : SinkTold) (spots : List Spot)
+    (whole : Option Whole) (slots n : ℕ) : Type 0 where
   pub stays : Stays v w
   pub later : before.faults ≤ now.faults
-  pub due : IsDue n
+  pub least : IsLeast (requests (map (λ s. s.id) spots)) slots n
   pub gets : w.told.gets ≡ counted_up v.told.gets n
   pub full : AllByRecursion (λ s. IsFull v number spots s.id) spots
   pub taken : (payloads : ℕ → List ℕ) → AreGiven v number spots payloads
       → Takes before.taken now.taken (version_bytes payloads spots)
   pub sum : (spots ≡ []) ⊎ IsSummed v number spots whole
-
--- so with the fewest loads that any plan has with so many slots
-abbrev pub IsCopied : View → View → ℕ → SinkTold → SinkTold → List Spot → Option Whole → ℕ → ℕ → Type 0
-IsCopied v w number before now spots whole slots n =
-    IsCopiedBy v w number before now spots whole (IsLeast (requests (map (λ s. s.id) spots)) slots) n
 
 -- a restore of these spots stopped; so many loads as it had are few
 pub record IsRestoreStopped (v w : View) (number : ℕ) (before now : SinkTold) (spots : List Spot)

@@ -74,41 +74,23 @@ pub record HasStayed (v w : View) (K : Core) (s n : ℕ) : Type 0 where
   pub blobs : IsSome v.told.blobs → IsSome (version_of K.state s n) → (q : Name)
       → blob_at w.told.blobs q ≡ blob_at v.told.blobs q
 
--- a version is restored: its bytes, which have its sum, are taken, with as many loads as are due
-pub record IsRestoredBy (v w : View) (before now : SinkTold) (K : Core) (s n : ℕ) (k : KeptVersion)
-    (IsDue : ℕ → Type 0) (answer : Answer) : Type 0 where
+-- a version is restored: its bytes, which have its sum, are taken
+pub record IsRestored (v w : View) (before now : SinkTold) (K : Core) (s n : ℕ) (k : KeptVersion) (slots : ℕ)
+    (answer : Answer) : Type 0 where
   pub loads : ℕ
-  pub due : IsDue loads
+  pub least : IsLeast (requests (map (λ r. r.id) k.rows)) slots loads
   pub gets : w.told.gets ≡ counted_up v.told.gets loads
   pub taken : Takes before.taken now.taken (bytes_of K.state s n)
   pub sum : fp (bytes_of K.state s n) ≡ k.sum
   pub is : answer ≡ Restored s n (length (bytes_of K.state s n)) loads
 
--- a restore of it was refused; so many loads as it had are few
-pub record IsCutBy (v w : View) (before now : SinkTold) (K : Core) (s n : ℕ)
-    (IsFew : ℕ → Type 0) : Type 0 where
+-- a restore of it was refused
+pub record IsCut (v w : View) (before now : SinkTold) (K : Core) (s n : ℕ) (k : KeptVersion)
+    (slots : ℕ) : Type 0 where
   pub loads : ℕ
-  pub few : IsFew loads
+  pub few : IsAtMostLeast (requests (map (λ r. r.id) k.rows)) slots loads
   pub gets : w.told.gets ≡ counted_up v.told.gets loads
   pub front : HasTakenFront before now (bytes_of K.state s n)
-
--- how many loads a restore has, by the state and the version
-abbrev pub Loads : Type 1
-Loads = State → KeptVersion → ℕ → Type 0
-
--- the fewest that any plan has with so many slots; and not more than that
-abbrev pub LeastLoads : ℕ → Loads
-LeastLoads slots S k = IsLeast (requests (map (λ r. r.id) k.rows)) slots
-
-abbrev pub AtMostLeastLoads : ℕ → Loads
-AtMostLeastLoads slots S k = IsAtMostLeast (requests (map (λ r. r.id) k.rows)) slots
-
-abbrev pub IsRestored : View → View → SinkTold → SinkTold → Core → ℕ → ℕ → KeptVersion → ℕ → Answer → Type 0
-IsRestored v w before now K s n k slots answer =
-    IsRestoredBy v w before now K s n k (LeastLoads slots K.state k) answer
-
-abbrev pub IsCut : View → View → SinkTold → SinkTold → Core → ℕ → ℕ → KeptVersion → ℕ → Type 0
-IsCut v w before now K s n k slots = IsCutBy v w before now K s n (AtMostLeastLoads slots K.state k)
 
 -- over a shelf that tells its blobs, of a kept version
 abbrev pub WhereTold : View → ℕ → ℕ → (Core → KeptVersion → Type 0) → Type 0
@@ -125,20 +107,14 @@ pub record IsLeft (v x : View) (s n : ℕ) : Type 0 where
   pub any_moment : (K : Core) → Keeps v K → LeavesNowIfTold v.told.history (IsNear K.state K.other)
       → LeavesOnlyIfTold v.told.history x.told.history (IsNear K.state K.other)
 
--- what a restore comes to, that has as many loads as are due, or few where it is refused
-pub record HasGoneBy (Due Few : Loads) (v x : View) (before now : SinkTold) (s n : ℕ)
+-- what a restore comes to
+pub record HasGone (v x : View) (before now : SinkTold) (s n slots : ℕ)
     (result : Result Answer Fault) : Type 0 where
   pub left : IsLeft v x s n
   pub sink : before.faults ≤ now.faults
   pub kind : IfOk result (λ answer. (bytes loads : ℕ) × (answer ≡ Restored s n bytes loads))
   pub cause : IfErr result (λ f. (K : Core) → Keeps v K → IsRestoreFault v x before now K.state s n f)
-  pub ok : IfOk result
-      (λ answer. WhereTold v s n (λ K k. IsRestoredBy v x before now K s n k (Due K.state k) answer))
-  pub err : OnErr result (WhereTold v s n (λ K k. IsCutBy v x before now K s n (Few K.state k)))
+  pub ok : IfOk result (λ answer. WhereTold v s n (λ K k. IsRestored v x before now K s n k slots answer))
+  pub err : OnErr result (WhereTold v s n (λ K k. IsCut v x before now K s n k slots))
   pub short : IfErr result
       (λ f. WhereTold v s n (λ K k. IsShortAt (bytes_of K.state s n) before.taken now.taken f))
-
--- so with the fewest loads
-abbrev pub HasGone : View → View → SinkTold → SinkTold → ℕ → ℕ → ℕ → Result Answer Fault → Type 0
-HasGone v x before now s n slots result =
-    HasGoneBy (LeastLoads slots) (AtMostLeastLoads slots) v x before now s n result

@@ -5,4 +5,4 @@
 mod copying;
 mod restoring;
 
-pub use crate::restoring::{restore_plain, whole_of};
+pub use crate::restoring::restore_plain;

@@ -16,8 +16,8 @@ use std::alloc::Global;
 use vault_traits::{Shelf, Sink};
 use vault_types::{Answer, Fault, Fp, Name, Set, Version, Whole};
 
-/// The sum that a version should have, by the number of its recipe. It takes no memory.
-pub fn whole_of(set: Set, version: Version, sum: Option<Fp>) -> Option<Whole>
+// The sum that a version should have, by the number of its recipe.
+fn whole_of(set: Set, version: Version, sum: Option<Fp>) -> Option<Whole>
     ensures { result ≡ option_map (whole_is set version) sum }
 {
     match sum {

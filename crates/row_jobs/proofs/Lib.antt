@@ -1,0 +1,4 @@
+mod Rows
+mod Making
+mod Concluding
+mod Closes

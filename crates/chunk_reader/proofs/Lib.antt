@@ -1,2 +1,0 @@
-mod Readings
-pub mod Goings

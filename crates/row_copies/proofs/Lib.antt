@@ -1,4 +1,0 @@
-mod Places
-mod Steps
-mod Fillings
-mod Others

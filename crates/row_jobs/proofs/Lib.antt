@@ -1,4 +1,0 @@
-mod Rows
-mod Making
-mod Concluding
-mod Closes

@@ -1,0 +1,6 @@
+mod Looks
+mod Lookups
+mod Takes
+mod Feeds
+mod Ends
+mod Starts

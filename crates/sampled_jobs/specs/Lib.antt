@@ -1,0 +1,2 @@
+pub mod BackingUp
+pub mod Closing

@@ -1,0 +1,4 @@
+pub mod Decisions
+mod Segments
+mod Filling
+mod Taking

@@ -82,7 +82,6 @@ impl Sampler {
     /// one used last. `Want`: none of those has it, and it is a hook of this container. `Unknown`: neither. No memory.
     pub fn look(&mut self, fp: &Fp) -> Look
         ensures hooks { self.new.hooks ≡ self.old.hooks }
-        ensures room { self.new.room ≡ self.old.room }
         ensures known { (tables : List Container) (used : List ℕ) (id : ℕ) → HasUsed tables self.old used
             → result ≡ look.Known id
             → (first_with tables fp.now used ≡ Some id)
@@ -112,7 +111,6 @@ impl Sampler {
             → ((f : Key) → has_fp f table.now ≡ has_at tables f table.now.id)
             → OnOk result (HasUsed tables self.new (used_after self.old.room used (Some table.now.id))) }
         ensures hooks { self.new.hooks ≡ self.old.hooks }
-        ensures room { self.new.room ≡ self.old.room }
         ensures memory { OnErr result (self.new ≡ self.old) }
     {
         let fps = fps_of(alloc, table)?;

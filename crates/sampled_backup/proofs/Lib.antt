@@ -1,6 +1,0 @@
-mod Looks
-mod Lookups
-mod Takes
-mod Feeds
-mod Ends
-mod Starts

@@ -1,2 +1,0 @@
-pub mod BackingUp
-pub mod Closing

@@ -1,4 +1,0 @@
-pub mod Decisions
-mod Segments
-mod Filling
-mod Taking

@@ -9,3 +9,4 @@ pub mod Loop
 pub mod Standing
 pub mod Whole
 pub mod Alone
+pub mod Served

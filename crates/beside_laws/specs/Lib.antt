@@ -1,3 +1,4 @@
 pub mod Running
 pub mod Steps
 pub mod Progress
+pub mod Turns

@@ -12,7 +12,7 @@ use Rattle.pipe_backup.specs.Loading.{IsLoaded, counted_as}
 use Rattle.pipe_backup.proofs.Moved.{keeps_counted}
 use Rattle.pin_laws.specs.Following.{Follows}
 use Rattle.pin_laws.proofs.Calls.{further}
-use Rattle.beside_laws.proofs.Served.{held_set, under_on}
+use Rattle.beside_runner.proofs.Served.{held_set, under_on}
 use Rattle.restore_turns.specs.Entry.{MeetsFirst, IsStateBeside}
 use Rattle.restore_turns.proofs.Turns.{load_follows}
 use Rattle.serial_restore.specs.Going.{Stays}

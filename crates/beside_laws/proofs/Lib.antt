@@ -9,4 +9,3 @@ pub mod Loop
 pub mod Standing
 pub mod Whole
 pub mod Alone
-pub mod Served

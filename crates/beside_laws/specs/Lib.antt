@@ -1,4 +1,3 @@
 pub mod Running
 pub mod Steps
 pub mod Progress
-pub mod Turns

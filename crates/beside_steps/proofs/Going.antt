@@ -19,7 +19,7 @@ use Rattle.keeper_core.specs.Releases.{Releases}
 use Rattle.restore_stage.specs.declared.Reply.{Reply}
 use Rattle.beside_laws.specs.Running.{with_answer}
 use Rattle.beside_laws.specs.Steps.{EndsRestore}
-use Rattle.beside_laws.specs.Turns.{IsBegun, GoesOn}
+use Rattle.beside_runner.specs.Turns.{IsBegun, GoesOn}
 use Rattle.restore_turns.specs.Entry.{IsStateBeside}
 use Rattle.restore_turns.specs.Started.{IsPlanned}
 use Rattle.restore_turns.proofs.Begins.{begins_restore}

@@ -9,7 +9,7 @@ use Rattle.vault_traits.specs.Files.{ChangesOnly, AreKept}
 use Rattle.vault_traits.specs.Told.{Files}
 use Rattle.restore_pins.specs.Pins.{Listed, numbers, without_pin}
 use Rattle.commit_laws.proofs.Listing.{all_append, all_left, all_right, all_both}
-use Rattle.beside_laws.proofs.Served.{held_at}
+use Rattle.beside_runner.proofs.Served.{held_at}
 use Rattle.keeper_catalog.specs.View.{View}
 use Rattle.pin_laws.specs.Following.{Follows}
 use Rattle.pin_laws.proofs.Calls.{still}

@@ -7,7 +7,7 @@ ghost use Rattle.vault_traits.specs.Files.{IsThere};
 ghost use Rattle.store_model.specs.Steps.{StepsLine, write_numbered};
 ghost use Rattle.beside_laws.specs.Running.{with_answer};
 ghost use Rattle.beside_laws.specs.Steps.{EndsRestore};
-ghost use Rattle.beside_laws.specs.Turns.{IsBegun};
+ghost use Rattle.beside_runner.specs.Turns.{IsBegun};
 ghost use Rattle.keeper_catalog.specs.View.{Keeps};
 ghost use Rattle.keeper_core.specs.Keeping.{IsKnownStray};
 ghost use Rattle.restore_turns.specs.Entry.{IsStateBeside};

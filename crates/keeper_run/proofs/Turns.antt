@@ -7,8 +7,8 @@ use Rattle.vault_traits.specs.Told.{Files, PlacesTold}
 use Rattle.restore_pins.specs.Pins.{Listed, numbers}
 use Rattle.store_model.specs.Steps.{Moment, StepsLine}
 use Rattle.beside_laws.specs.Progress.Underway.{answers_line}
-use Rattle.beside_laws.specs.Turns.{IsBegun}
-use Rattle.beside_laws.proofs.Served.{under_begun}
+use Rattle.beside_runner.specs.Turns.{IsBegun}
+use Rattle.beside_runner.proofs.Served.{under_begun}
 use Rattle.keeper_catalog.specs.View.{View}
 use Rattle.keeper_core.specs.Keeping.{IsKnownStray}
 use Rattle.restore_turns.specs.Entry.{IsStateBeside}

@@ -7,7 +7,7 @@ ghost use Rattle.store_model.specs.Outputs.{AreApartLines};
 ghost use Rattle.store_model.specs.Ranges.{AreLimits, IsLineInRange};
 ghost use Rattle.store_model.specs.Script.{RunsLines};
 ghost use Rattle.store_model.specs.Steps.{Moment};
-ghost use Rattle.beside_laws.specs.Turns.{is_restore};
+ghost use Rattle.beside_runner.specs.Turns.{is_restore};
 ghost use Rattle.keeper_catalog.specs.View.{View};
 ghost use Rattle.keeper_core.specs.Keeping.{IsKnownStray};
 ghost use Rattle.restore_turns.specs.Entry.{IsStateBeside};

@@ -1,5 +1,5 @@
 use Rattle.std.proofs.Common.{refl, map, arith}
-use Rattle.beside_laws.proofs.Served.{under_long}
+use Rattle.beside_runner.proofs.Served.{under_long}
 use Rattle.keeper_core.specs.Keeping.{IsKnownStray}
 use Rattle.restore_turns.specs.Entry.{IsStateBeside}
 use Rattle.beside_steps.specs.Holding.{past_of}

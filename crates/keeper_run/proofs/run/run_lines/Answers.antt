@@ -3,7 +3,7 @@ use Rattle.beside_laws.specs.Progress.{Underway}
 use Rattle.beside_laws.specs.Progress.Underway.{begins}
 use Rattle.beside_laws.specs.Running.{Past}
 use Rattle.beside_laws.proofs.Whole.{runs_at_end}
-use Rattle.beside_laws.proofs.Served.{none_left}
+use Rattle.beside_runner.proofs.Served.{none_left}
 use Rattle.store_model.specs.Steps.{Moment}
 use Rattle.keeper_catalog.specs.View.{View}
 use Rattle.keeper_core.specs.Keeping.{IsKnownStray}

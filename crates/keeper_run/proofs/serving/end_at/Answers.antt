@@ -1,7 +1,7 @@
 use Rattle.std.proofs.Common.{◌<◌, ℕ, List, length, map, set, sym, subst, arith}
 use Rattle.keeper_core.specs.Keeping.{IsKnownStray}
 use Rattle.restore_turns.specs.Entry.{IsStateBeside}
-use Rattle.beside_laws.proofs.Served.{held_less, under_ended, under_stands}
+use Rattle.beside_runner.proofs.Served.{held_less, under_ended, under_stands}
 use Rattle.beside_steps.specs.Holding.{BesideView, Holds, past_of}
 use Rattle.beside_steps.specs.Kept.{kept_beside}
 use Rattle.beside_jobs.specs.Under.{told_of, IsUnder}

@@ -1,7 +1,7 @@
 use Rattle.std.proofs.Common.{◌<◌, length, arith}
 use Rattle.keeper_core.specs.Keeping.{IsKnownStray}
 use Rattle.restore_turns.specs.Entry.{IsStateBeside}
-use Rattle.beside_laws.proofs.Served.{held_set, under_on}
+use Rattle.beside_runner.proofs.Served.{held_set, under_on}
 use Rattle.beside_steps.specs.Holding.{Holds, past_of}
 use Rattle.beside_steps.proofs.Going.{gone_on, holds_fed}
 use Rattle.beside_jobs.specs.Under.{told_of}

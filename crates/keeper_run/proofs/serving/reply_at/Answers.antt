@@ -1,5 +1,5 @@
 use Rattle.std.proofs.Common.{◌<◌, length, arith}
-use Rattle.beside_laws.proofs.Served.{held_set, past_same}
+use Rattle.beside_runner.proofs.Served.{held_set, past_same}
 use Rattle.beside_steps.specs.Holding.{Holds, past_of}
 use Rattle.beside_steps.proofs.Held.{holds_replied}
 use Rattle.beside_steps.proofs.Held.{one_at}

@@ -19,7 +19,7 @@ use Rattle.beside_laws.specs.Running.{Past, with_answer}
 use Rattle.beside_laws.specs.Steps.{EndsRestore}
 use Rattle.beside_laws.proofs.Standing.{standing_of}
 use Rattle.beside_laws.proofs.Whole.{stands_at}
-use Rattle.beside_laws.specs.Turns.{GoesOn, IsBegun}
+use Rattle.beside_runner.specs.Turns.{GoesOn, IsBegun}
 
 split : {X : Type 0} (xs : List X) (at : ℕ) (x : X) → at < length xs → x ≡ get_or xs at x → xs ≡ take at xs ++ x ∷ drop (suc at) xs
 split {X} xs at x below is = sym (take-append-drop at xs) ∙ ap (λ (ys : List X). take at xs ++ ys) (drop-cons xs at x below ∙ ap (λ (y : X). y ∷ drop (suc at) xs) (sym is))
